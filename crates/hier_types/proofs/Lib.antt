@@ -1,0 +1,5 @@
+pub mod CallLemmas
+pub mod LineLemmas
+pub mod PlainLemmas
+pub mod PortCallLemmas
+pub mod TableLemmas

@@ -1,0 +1,13 @@
+pub mod Beats
+pub mod Calls
+pub mod Causes
+pub mod Lines
+pub mod Outside
+pub mod Plain
+pub mod PortCalls
+pub mod Settings
+pub mod Shelves
+pub mod Sinks
+pub mod Sources
+pub mod Span
+pub mod Tabulate

@@ -1,0 +1,28 @@
+//! The words that the crates of the simulator share: lines and pages, the guest's span, settings, and the traits
+//! between layers. Contracts see a memory as its lines, a port as its bytes, and what stands outside as bytes that
+//! are told or not. Nothing here knows of instructions, caches or codecs; the forms in memory serve tests.
+#![tactic(auto)]
+
+mod beats;
+mod faults;
+mod geometry;
+mod layer;
+mod plain_lines;
+mod port;
+mod settings;
+mod shelf;
+mod sink;
+mod source;
+mod units;
+
+pub use beats::{Beat, BeatWord};
+pub use faults::{Failed, NoMemory, NoSpace, ShelfFault};
+pub use geometry::Geometry;
+pub use layer::Layer;
+pub use plain_lines::PlainLines;
+pub use port::Port;
+pub use settings::{Codec, Settings};
+pub use shelf::{ListShelf, Shelf};
+pub use sink::{BytesSink, NullSink, Sink};
+pub use source::{BytesSource, Source};
+pub use units::{LINE_BYTES, Line, LineNo, PAGE_BYTES, PAGE_LINES, PageNo};
