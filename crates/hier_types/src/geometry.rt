@@ -1,5 +1,5 @@
 // The addresses that the guest has.
-ghost use Rattle.std.specs.Prelude.{◌≡◌, ◌↔◌, IsTrue};
+ghost use Rattle.std.specs.Prelude.{◌≡◌, ◌<◌, ◌^◌, ◌↔◌, IsTrue};
 
 use crate::units::{LINE_BYTES, LineNo, PAGE_BYTES};
 use std::marker::Model;
@@ -30,14 +30,16 @@ impl Geometry {
 
     /// The first address of the span.
     pub fn first(&self) -> u32
-        ensures { result ≡ first self.now }
+        ensures first { result ≡ first self.now }
+        ensures fits { past self.now < 2 ^ 32 }
     {
         self.base * PAGE_BYTES
     }
 
     /// The address behind the last one of the span.
     pub fn past(&self) -> u32
-        ensures { result ≡ past self.now }
+        ensures past { result ≡ past self.now }
+        ensures fits { past self.now < 2 ^ 32 }
     {
         (self.base + self.pages) * PAGE_BYTES
     }

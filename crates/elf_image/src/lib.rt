@@ -1,0 +1,11 @@
+//! ELF files of 32 bits, and the memory that their programs begin with. Contracts see an image as the guest's span
+//! and the file's bytes; what it puts at an address is a function of these. It reads no section and moves no byte
+//! of the file.
+#![tactic(auto)]
+
+mod fields;
+mod image;
+mod plain;
+
+pub use image::Image;
+pub use plain::{PlainFault, read_plain};
