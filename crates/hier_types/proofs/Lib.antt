@@ -1,4 +1,5 @@
 pub mod CallLemmas
+pub mod CauseLemmas
 pub mod LineLemmas
 pub mod PlainLemmas
 pub mod PortCallLemmas

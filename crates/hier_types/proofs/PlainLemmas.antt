@@ -1,11 +1,9 @@
 -- What the answers of plain lines say.
 use Rattle.std.proofs.Common.{◌≡◌, ℕ, ◌≤◌, List, Some, Err, arith, refl}
 use Rattle.hier_types.specs.declared.faults.NoSpace.{NoSpace}
-use Rattle.hier_types.specs.Causes.{Refuses, raised}
+use Rattle.hier_types.specs.Causes.{Refuses}
+use Rattle.hier_types.proofs.CauseLemmas.{later_raised}
 use Rattle.hier_types.specs.Plain.{Plain, PlainAnswers}
-
-later_raised : (count : ℕ) → count ≤ raised count
-later_raised count = grind arith
 
 -- a refusal has its cause
 pub plain_refuses : (old new : Plain) (line : ℕ) (lines : List (List ℕ)) (refusal : NoSpace) → PlainAnswers {T = Unit {0}} old line (Err refusal) lines new

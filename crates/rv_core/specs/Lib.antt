@@ -1,0 +1,5 @@
+pub mod Answers
+pub mod Effect
+pub mod Hart
+pub mod Operations
+pub mod Touched
