@@ -1,0 +1,5 @@
+pub mod Called
+pub mod Calm
+pub mod Gathered
+pub mod Held
+pub mod Loaded

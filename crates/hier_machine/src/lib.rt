@@ -1,0 +1,13 @@
+//! The machine: the hart over its memory, beat by beat. Contracts see the registers, the guest's bytes and the
+//! number of instructions that retired, and say each beat and each run by the same instructions over flat memory.
+//! It knows nothing of files, words and streams, and takes no memory once it is open.
+#![tactic(auto)]
+
+pub mod calls;
+mod ends;
+mod gather;
+mod held_line;
+pub mod loading;
+
+pub use ends::{MachineEnd, OpenFault, Part};
+pub use held_line::HeldLine;
