@@ -1,5 +1,10 @@
+pub mod Beats
 pub mod Called
 pub mod Calm
 pub mod Gathered
 pub mod Held
 pub mod Loaded
+pub mod Runs
+pub mod Start
+pub mod State
+pub mod Words

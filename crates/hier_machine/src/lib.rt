@@ -3,11 +3,12 @@
 //! It knows nothing of files, words and streams, and takes no memory once it is open.
 #![tactic(auto)]
 
-pub mod calls;
+mod calls;
 mod ends;
 mod gather;
 mod held_line;
-pub mod loading;
+mod loading;
+mod machine;
 
 pub use ends::{MachineEnd, OpenFault, Part};
-pub use held_line::HeldLine;
+pub use machine::Machine;

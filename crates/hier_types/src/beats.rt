@@ -5,6 +5,7 @@ ghost use Rattle.std.specs.List.{list_any};
 ghost use Rattle.hier_types.specs.Beats.{IsBeatWord, is_hart};
 
 use arrayvec::ArrayVec;
+use std::alloc::AllocError;
 use std::marker::Model;
 
 /// What acts in one beat: the hart by one instruction, the mover by one turn, the cleaner by one turn.
@@ -41,6 +42,16 @@ impl Model for BeatWord {
     ghost invariant = { λ word. IsBeatWord word.beats.items };
 }
 
+impl Clone for BeatWord {
+    ghost is_clone = { λ word copy. copy ≡ word };
+
+    ghost is_infallible = { λ _. Unit {0} };
+
+    fn clone(&self) -> Result<Self, AllocError> {
+        Ok(BeatWord::new(self.beats.as_slice()).unwrap())
+    }
+}
+
 impl BeatWord {
     /// The word of these beats. None for any other list than one of 1 to 64 beats with a `Hart` among them.
     pub fn new(beats: &[Beat]) -> Option<BeatWord>
@@ -58,7 +69,8 @@ impl BeatWord {
 
     /// The number of beats, 1 to 64.
     pub fn len(&self) -> u8
-        ensures { result ≡ length self.now }
+        ensures len { result ≡ length self.now }
+        ensures word { IsBeatWord self.now }
     {
         self.beats.len() as u8
     }
