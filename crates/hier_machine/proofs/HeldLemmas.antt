@@ -1,11 +1,12 @@
 -- The kept line over the lines of a layer.
-use Rattle.std.proofs.Common.{◌≡◌, ℕ, zero, suc, ◌+◌, ◌*◌, ◌<◌, ◌==◌, List, [], ◌∷◌, length, get_or, set, Bool, true, false, Option, Some, None, Ok, Err, slice_get, refl, sym, ◌∙◌, ap, subst, arith}
-use Rattle.std.proofs.lemmas.List.{length-set, set-set, get_or-set_same}
+use Rattle.std.proofs.Common.{◌≡◌, ℕ, zero, suc, ◌+◌, ◌*◌, ◌<◌, ◌==◌, List, [], ◌∷◌, ◌++◌, length, get_or, set, take, drop, Bool, true, false, Option, Some, None, Ok, Err, slice_get, refl, sym, ◌∙◌, ap, subst, arith}
+use Rattle.std.proofs.Math.Seq.{take-add}
+use Rattle.std.proofs.lemmas.List.{drop-drop, length-set, set-set, get_or-set_same}
 use Rattle.hier_types.specs.declared.faults.NoSpace.{NoSpace}
 use Rattle.hier_types.specs.declared.units.LineNo.{LineNo}
 use Rattle.hier_types.specs.Calls.{Answer, Call, Write}
 use Rattle.hier_types.specs.Lines.{AreLines, flatten}
-use Rattle.hier_types.proofs.LineLemmas.{length-flatten, byte_of_line, flatten-set, lines-set}
+use Rattle.hier_types.proofs.LineLemmas.{length-flatten, byte_of_line, flatten-set, line_of_flatten, lines-set}
 use Rattle.hier_machine.specs.Held.{Brings, Entry, Touches, clean, entry_of, held_of, overlay}
 
 overlay_lines : (lines : List (List ℕ)) (kept : Option LineNo) (bytes : List ℕ) → AreLines lines → length bytes ≡ 64 → AreLines (overlay lines kept bytes)
@@ -75,3 +76,16 @@ Touches-refused kept k line bytes poked refusal e other dirty = rw (e, other, di
 pub Touches-written : (kept : Option LineNo) (k : LineNo) (line : ℕ) (bytes : List ℕ) (poked : Bool) (calls : List Call) (result : Answer) (after : Option Entry) → kept ≡ Some k → (k.0 == line) ≡ false → poked ≡ true
   → Brings (entry_of kept bytes false) line result after calls → Touches (entry_of kept bytes poked) line result after (Write k.0 bytes (Ok tt) ∷ calls)
 Touches-written kept k line bytes poked calls result after e other dirty brings = rw (e, other, dirty) (refl, refl, rw e at brings)
+
+-- the bytes of a page up to the next line
+pub next_line : (lines : List (List ℕ)) (kept : Option LineNo) (bytes : List ℕ) (page index : ℕ) (line : List ℕ) → AreLines lines → length bytes ≡ 64 → slice_get (overlay lines kept bytes) (64 * page + index) ≡ Some line
+  → take (64 * index) (drop (4096 * page) (flatten (overlay lines kept bytes))) ++ line ≡ take (64 * (index + 1)) (drop (4096 * page) (flatten (overlay lines kept bytes)))
+next_line lines kept bytes page index line whole full at =
+    let memory = flatten (overlay lines kept bytes) in
+    let rest = drop (4096 * page) memory in
+    let size : 64 * (index + 1) ≡ 64 * index + 64 = omega arith in
+    let place : 4096 * page + 64 * index ≡ 64 * (64 * page + index) = omega arith in
+    let here : take 64 (drop (64 * index) rest) ≡ line =
+    ap (take 64) (drop-drop (64 * index) (4096 * page) memory ∙ ap (λ n. drop n memory) place)
+    ∙ line_of_flatten (overlay lines kept bytes) (64 * page + index) line (overlay_lines lines kept bytes whole full) at in
+    ap (λ l. take (64 * index) rest ++ l) (sym here) ∙ sym (take-add (64 * index) 64 rest) ∙ ap (λ n. take n rest) (sym size)

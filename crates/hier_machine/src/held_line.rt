@@ -1,12 +1,12 @@
 // A port over a layer of lines, behind one line that is kept.
-ghost use Rattle.std.specs.Prelude.{◌≡◌, ◌<◌, ◌*◌, Some, None, false, true, length, slice_get, OnOk, OnErr};
+ghost use Rattle.std.specs.Prelude.{◌≡◌, ◌<◌, ◌≤◌, ◌+◌, ◌*◌, ◌++◌, Some, None, false, true, length, slice_get, take, drop, OnOk, OnErr};
 ghost use Rattle.std.specs.Option.{ForSome};
 ghost use Rattle.hier_types.specs.Calls.{Makes};
 ghost use Rattle.hier_types.specs.Causes.{Refuses};
 ghost use Rattle.hier_types.specs.Lines.{AreLines, flatten};
 ghost use Rattle.hier_machine.specs.Held.{Brings, Touches, entry_of, held_of, overlay};
 
-use hier_types::{Geometry, LINE_BYTES, Layer, Line, LineNo, NoSpace, Port};
+use hier_types::{Geometry, LINE_BYTES, Layer, Line, LineNo, NoSpace, PAGE_LINES, PageNo, Port};
 
 /// Keeps the line that was touched last. A touch of another line writes it below first, where it was poked.
 #[derive(Drop)]
@@ -17,6 +17,7 @@ pub struct HeldLine<B: Layer> {
     bytes: Line,
     poked: bool,
     held: bool,
+    ghost few: { geometry.pages ≤ 65536 },
     ghost sized: { length (B.content below) ≡ 64 * geometry.pages },
     ghost whole: { AreLines (B.content below) },
     ghost full: { length bytes ≡ 64 },
@@ -28,7 +29,8 @@ pub struct HeldLine<B: Layer> {
 impl<B: Layer> HeldLine<B> {
     /// A port over the layer, which keeps no line yet.
     pub fn new(below: B, geometry: Geometry) -> Self
-        requires { length (B.content below) ≡ 64 * geometry.pages }
+        requires few { geometry.pages ≤ 65536 }
+        requires sized { length (B.content below) ≡ 64 * geometry.pages }
         ensures below { result.below ≡ below }
         ensures kept { result.kept ≡ None }
         ensures span { result.geometry ≡ geometry }
@@ -42,6 +44,30 @@ impl<B: Layer> HeldLine<B> {
             poked: false,
             held: false,
         }
+    }
+
+    /// The bytes of a page of the memory, which stays as it is.
+    pub fn view_page(&self, page: PageNo, into: &mut [u8; 4096])
+        requires { page.0 < self.now.geometry.pages }
+        ensures { into.new ≡ take 4096 (drop (4096 * page.0) (flatten (overlay (B.content self.now.below) self.now.kept self.now.bytes))) }
+    {
+        let mut line = [0; 64];
+        for index in 0..PAGE_LINES {
+            self.view(LineNo(page.0 * PAGE_LINES + index), &mut line);
+            put_line(into, index, &line);
+        }
+    }
+
+    /// A line of the memory, which stays as it is.
+    fn view(&self, line: LineNo, into: &mut Line)
+        requires { line.0 < 64 * self.now.geometry.pages }
+        ensures { slice_get (overlay (B.content self.now.below) self.now.kept self.now.bytes) line.0 ≡ Some into.new }
+    {
+        if self.kept == Some(line) {
+            *into = self.bytes;
+            return;
+        }
+        self.below.view(line, into);
     }
 
     /// Reads a line from below into the place of what is kept, which is as below.
@@ -114,4 +140,14 @@ impl<B: Layer> Port for HeldLine<B> {
         self.bytes[place] = byte;
         self.poked = true;
     }
+}
+
+/// Puts a line to its place in a page.
+fn put_line(into: &mut [u8; 4096], index: u32, line: &Line)
+    requires { index < 64 }
+    ensures len { length into.new ≡ 4096 }
+    ensures front { take (64 * (index + 1)) into.new ≡ take (64 * index) into.old ++ line.now }
+{
+    let at = (index * LINE_BYTES) as usize;
+    into[at..at + 64].copy_from_slice(line);
 }

@@ -13,7 +13,7 @@ use crate::ends::{MachineEnd, OpenFault, Part};
 use crate::held_line::HeldLine;
 use crate::loading::loaded;
 use elf_image::Image;
-use hier_types::{Beat, BeatWord, PlainLines, Settings, Sink, Source};
+use hier_types::{Beat, BeatWord, PageNo, PlainLines, Settings, Sink, Source};
 use rv_core::{Did, Ended, Regs, step};
 use std::alloc::Global;
 use std::marker::Model;
@@ -104,6 +104,14 @@ impl Machine {
         ensures { result ≡ self.now.ended }
     {
         self.ended
+    }
+
+    /// The guest's bytes of a page.
+    pub fn view_page(&self, page: PageNo, into: &mut [u8; 4096])
+        requires { page.0 < self.now.span.pages }
+        ensures { into.new ≡ take 4096 (drop (4096 * page.0) self.now.bytes) }
+    {
+        self.memory.view_page(page, into);
     }
 
     /// One beat. The hart makes one instruction; the mover and the cleaner have nothing to do yet. A beat that

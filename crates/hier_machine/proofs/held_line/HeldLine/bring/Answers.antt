@@ -20,6 +20,7 @@ invariant_of-self-2 g c =
     let old = c.args.self.now in
     let content = c.in_default.ensures.content in
     record {
+      few = old.few;
       sized = ap length content ∙ old.sized;
       whole = rw content old.whole;
       full = line_of_lines (g.B.Layer.content old.below) c.args.line.0 c.read.new.into old.whole c.in_default.ensures.ok;

@@ -28,6 +28,7 @@ invariant_of-self-2 g c =
     let inside : k.0 < length content = omega arith in
     let wrote = c.in_default-write.ensures.ok in
     record {
+      few = old.few;
       sized = ap length wrote ∙ length-set content k.0 old.bytes ∙ sized;
       whole = rw wrote (lines-set content k.0 old.bytes old.whole old.full);
       full = old.full;

@@ -8,8 +8,8 @@ use Rattle.hier_machine.specs.Held.{overlay}
 use Rattle.hier_machine.specs.Loaded.{line_in}
 use Rattle.hier_machine.proofs.machine.Machine.open.Goals as goal
 
-pub new-requires : goal.new-requires
-new-requires c =
+pub new-requires-clause-sized : goal.new-requires-clause-sized
+new-requires-clause-sized c =
     let n = 64 * c.geometry.inside.pages in
     let pages : c.geometry.inside.pages ≡ c.args.settings.now.geometry.pages = ap (λ (s : Span). s.pages) c.geometry.view_is in
     let lines : c.in-Ok.below.lines ≡ tabulate (line_in c.args.image.now) n = c.in-Ok.ensures.lines in

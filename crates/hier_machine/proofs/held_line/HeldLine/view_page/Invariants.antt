@@ -1,0 +1,10 @@
+use Rattle.std.proofs.Common.{◌≡◌, ◌*◌, length, take, drop}
+use Rattle.hier_types.specs.Lines.{flatten}
+use Rattle.hier_machine.specs.Held.{overlay}
+use Rattle.hier_machine.proofs.held_line.HeldLine.view_page.Given as goal
+
+abbrev pub invariant-loop-index : goal.invariant-loop-index
+invariant-loop-index g l = record {
+  len : length l.into ≡ 4096;
+  front : take (64 * l.index) l.into ≡ take (64 * l.index) (drop (4096 * l.page.0) (flatten (overlay (g.B.Layer.content l.self.below) l.self.kept l.self.bytes)));
+}
