@@ -1,5 +1,5 @@
 -- Plain lines that refuse no call stay so under any calls, and under a port that makes only calls.
-use Rattle.std.proofs.Common.{◌≡◌, ℕ, List, [], ◌∷◌, true, Option, None, Some, Ok, Err, Result, subst, sym}
+use Rattle.std.proofs.Common.{◌≡◌, ℕ, List, [], ◌∷◌, Option, Ok, Err, Result, subst, sym}
 use Rattle.hier_types.specs.declared.faults.NoSpace.{NoSpace}
 use Rattle.hier_types.specs.Calls.{Answer, Call, Read, Write, Made, Makes}
 use Rattle.hier_types.specs.Plain.{Plain, PlainRead, PlainWrite}

@@ -1,5 +1,5 @@
 -- The lines of a buffer, and what is copied of each.
-use Rattle.std.proofs.Common.{◌≡◌, ◌∙◌, ◌+◌, ◌-◌, ◌*◌, ◌/◌, ◌<◌, ◌≤◌, ◌==◌, ◌&&◌, ℕ, zero, suc, max, min, Bool, true, false, cond, if◌then◌else◌, List, [], ◌∷◌, length, get_or, take, drop, nat_le, nat_lt, refl, sym, ap, arith, length-drop}
+use Rattle.std.proofs.Common.{◌≡◌, ◌∙◌, ◌+◌, ◌-◌, ◌*◌, ◌<◌, ◌≤◌, ◌==◌, ◌&&◌, ℕ, suc, max, min, true, false, cond, List, [], ◌∷◌, length, get_or, take, drop, nat_le, nat_lt, refl, sym, ap, arith, length-drop}
 use Rattle.std.proofs.lemmas.Bool.Decides.{nat_tests}
 use Rattle.std.proofs.lemmas.List.{get_or-take, get_or-drop, length-take-le}
 use Rattle.hier_types.proofs.TableLemmas.{tabulate-by_index}

@@ -1,5 +1,5 @@
 -- The kept line over the lines of a layer.
-use Rattle.std.proofs.Common.{◌≡◌, ℕ, zero, suc, ◌+◌, ◌*◌, ◌<◌, ◌==◌, List, [], ◌∷◌, ◌++◌, length, get_or, set, take, drop, Bool, true, false, Option, Some, None, Ok, Err, slice_get, refl, sym, ◌∙◌, ap, subst, arith}
+use Rattle.std.proofs.Common.{◌≡◌, ℕ, zero, suc, ◌+◌, ◌*◌, ◌<◌, ◌==◌, List, [], ◌∷◌, ◌++◌, length, get_or, set, take, drop, Bool, true, false, Option, Some, None, Ok, Err, slice_get, refl, sym, ◌∙◌, ap, arith}
 use Rattle.std.proofs.Math.Seq.{take-add}
 use Rattle.std.proofs.lemmas.List.{drop-drop, length-set, set-set, get_or-set_same}
 use Rattle.hier_types.specs.declared.faults.NoSpace.{NoSpace}
@@ -7,7 +7,7 @@ use Rattle.hier_types.specs.declared.units.LineNo.{LineNo}
 use Rattle.hier_types.specs.Calls.{Answer, Call, Write}
 use Rattle.hier_types.specs.Lines.{AreLines, flatten}
 use Rattle.hier_types.proofs.LineLemmas.{length-flatten, byte_of_line, flatten-set, line_of_flatten, lines-set}
-use Rattle.hier_machine.specs.Held.{Brings, Entry, Touches, clean, entry_of, held_of, overlay}
+use Rattle.hier_machine.specs.Held.{Brings, Entry, Touches, entry_of, held_of, overlay}
 
 overlay_lines : (lines : List (List ℕ)) (kept : Option LineNo) (bytes : List ℕ) → AreLines lines → length bytes ≡ 64 → AreLines (overlay lines kept bytes)
 overlay_lines lines None bytes whole full = whole

@@ -1,8 +1,8 @@
 -- From a call of the guest to a step of the flat machine.
-use Rattle.std.proofs.Common.{◌≡◌, ℕ, ◌+◌, List, [], ◌++◌, length, false, Option, None, Some, refl, sym, ◌∙◌, ap}
+use Rattle.std.proofs.Common.{◌≡◌, ℕ, ◌+◌, List, [], false, Option, None, Some, refl, sym}
 use Rattle.std.proofs.lemmas.List.{append-nil}
 use Rattle.std.specs.Io.KnownBytes.{Appends}
-use Rattle.rv_core.specs.Calls.{Request, Exit, Answer, Write, Unbuilt, answered, request_of}
+use Rattle.rv_core.specs.Calls.{Request, Exit, Answer, Write, Unbuilt, request_of}
 use Rattle.rv_core.specs.Effect.{Calls, effect_at}
 use Rattle.rv_core.specs.Flat.{Next, flat_step, retires}
 use Rattle.rv_core.specs.Hart.{Hart}

@@ -1,5 +1,5 @@
 -- What a run does, by the flat run from the same state.
-use Rattle.std.specs.Prelude.{◌≡◌, ◌≤◌, ℕ, ◌-◌, List, ◌++◌, take, true, Option, Some}
+use Rattle.std.specs.Prelude.{◌≡◌, ◌≤◌, ℕ, ◌-◌, List, ◌++◌, take, true, Some}
 use Rattle.std.specs.Io.KnownBytes.{Appends}
 use Rattle.hier_types.specs.Causes.{Rose}
 use Rattle.rv_core.specs.Flat.{FlatEnd, FlatExit, FlatTrap, FlatBudget, FlatLacks, flat_after, flat_run}

@@ -1,5 +1,5 @@
 -- What is made on one layer is made on what it stands for.
-use Rattle.std.proofs.Common.{◌≡◌, ℕ, List, [], ◌∷◌, ◌++◌, Result, ap, subst, refl, ◌∙◌}
+use Rattle.std.proofs.Common.{ℕ, List, [], ◌∷◌, ◌++◌, Result, ap, subst, refl}
 use Rattle.hier_types.specs.Calls.{Answer, Call, Read, Write, Made, Makes}
 use Rattle.hier_types.specs.declared.faults.NoSpace.{NoSpace}
 

@@ -3,4 +3,5 @@ pub mod CauseLemmas
 pub mod LineLemmas
 pub mod PlainLemmas
 pub mod PortCallLemmas
+pub mod SettingLemmas
 pub mod TableLemmas

@@ -1,5 +1,5 @@
 -- What the answers of plain lines say.
-use Rattle.std.proofs.Common.{◌≡◌, ℕ, ◌≤◌, List, Some, Err, arith, refl}
+use Rattle.std.proofs.Common.{◌≡◌, ℕ, List, Some, Err, arith, refl}
 use Rattle.hier_types.specs.declared.faults.NoSpace.{NoSpace}
 use Rattle.hier_types.specs.Causes.{Refuses}
 use Rattle.hier_types.proofs.CauseLemmas.{later_raised}

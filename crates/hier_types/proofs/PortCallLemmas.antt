@@ -1,5 +1,5 @@
 -- How the touches and pokes of a port are put together.
-use Rattle.std.proofs.Common.{◌≡◌, ℕ, List, [], ◌∷◌, Option, Some, None, Ok, Err, refl}
+use Rattle.std.proofs.Common.{ℕ, List, [], ◌∷◌, Option, Some, None, Ok, Err, refl}
 use Rattle.hier_types.specs.declared.faults.NoSpace.{NoSpace}
 use Rattle.hier_types.specs.Calls.{Answer}
 use Rattle.hier_types.specs.PortCalls.{Touch, PortMade, poke_calls, MadeInOrder}

@@ -1,5 +1,5 @@
 -- Words of beats.
-use Rattle.std.specs.Prelude.{ℕ, ◌≤◌, Bool, true, false, List, length, IsTrue}
+use Rattle.std.specs.Prelude.{◌≤◌, Bool, true, false, List, length, IsTrue}
 use Rattle.std.specs.List.{list_any}
 use Rattle.hier_types.specs.declared.beats.Beat.{Beat}
 use Rattle.hier_types.specs.declared.beats.Beat.TheVariants.{Hart, Mover, Cleaner}

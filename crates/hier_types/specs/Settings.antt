@@ -1,6 +1,5 @@
 -- The rules of the settings, and their defaults.
-use Rattle.std.specs.Prelude.{◌≡◌, ℕ, ◌≤◌, ◌^◌, false, List, [], ◌∷◌}
-use Rattle.hier_types.specs.declared.beats.Beat.{Beat}
+use Rattle.std.specs.Prelude.{◌≡◌, ℕ, ◌≤◌, ◌^◌, false, [], ◌∷◌}
 use Rattle.hier_types.specs.declared.beats.Beat.TheVariants.{Hart, Mover, Cleaner}
 use Rattle.hier_types.specs.declared.settings.Codec.TheVariants.{Bdi}
 use Rattle.hier_types.specs.declared.settings.Settings.{Settings}

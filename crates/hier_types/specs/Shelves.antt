@@ -1,5 +1,5 @@
 -- A shelf in memory, by what contracts see of it.
-use Rattle.std.specs.Prelude.{◌≡◌, ◌<◌, ◌≤◌, ℕ, true, false, List, map, length, Option, Some, None, Result, Ok, Err, MatchBool, String, Vec, string_bytes}
+use Rattle.std.specs.Prelude.{◌≡◌, ◌<◌, ◌≤◌, ℕ, false, List, map, length, Some, None, Result, Ok, Err, MatchBool, String, Vec, string_bytes}
 use Rattle.std.specs.declared.alloc.Global.{Global}
 use Rattle.hier_types.specs.declared.faults.ShelfFault.{ShelfFault}
 use Rattle.hier_types.specs.declared.faults.ShelfFault.TheVariants.{Failed, TooLong, NoMemory}

@@ -1,4 +1,4 @@
-use Rattle.std.proofs.Common.{◌≡◌, ◌∙◌, ◌+◌, ◌-◌, ◌<◌, [], None, Some, Ok, Err, length, get_or, refl, ap, arith}
+use Rattle.std.proofs.Common.{◌≡◌, ◌∙◌, ◌+◌, ◌-◌, ◌<◌, [], None, Some, length, get_or, refl, ap, arith}
 use Rattle.hier_types.specs.Span.{first, line_at}
 use Rattle.hier_types.proofs.PortCallLemmas.{made_pokes, made_refused, made_touch}
 use Rattle.rv_core.specs.Touched.{lines_from}

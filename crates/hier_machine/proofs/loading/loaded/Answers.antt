@@ -1,4 +1,4 @@
-use Rattle.std.proofs.Common.{◌≡◌, ◌∙◌, ◌*◌, ℕ, List, replicate, sym, ap, arith}
+use Rattle.std.proofs.Common.{◌≡◌, ◌∙◌, ◌*◌, replicate, ap, arith}
 use Rattle.hier_types.specs.Lines.{zero_line}
 use Rattle.hier_types.specs.Plain.{Plain}
 use Rattle.hier_machine.specs.Loaded.{line_in}

@@ -1,4 +1,4 @@
-use Rattle.std.proofs.Common.{◌≡◌, ◌∙◌, ◌+◌, ◌*◌, ◌<◌, List, ℕ, set, take, drop, ap, arith}
+use Rattle.std.proofs.Common.{◌≡◌, ◌∙◌, ◌+◌, ◌*◌, ◌<◌, set, take, drop, ap, arith}
 use Rattle.hier_types.specs.Lines.{zero_line}
 use Rattle.hier_machine.specs.Loaded.{line_in}
 use Rattle.hier_machine.proofs.FilledLemmas.{filled_more, length-filled, line_of_page}

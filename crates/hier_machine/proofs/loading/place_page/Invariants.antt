@@ -1,6 +1,5 @@
-use Rattle.std.proofs.Common.{◌≡◌, ◌+◌, ◌*◌}
+use Rattle.std.proofs.Common.{◌+◌, ◌*◌}
 use Rattle.hier_types.specs.Lines.{zero_line}
-use Rattle.elf_image.specs.Image.{page_of}
 use Rattle.hier_machine.specs.Calm.{Calm}
 use Rattle.hier_machine.specs.Loaded.{IsFilled, line_in}
 use Rattle.hier_machine.proofs.loading.place_page.Given as goal

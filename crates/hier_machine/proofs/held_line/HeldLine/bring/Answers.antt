@@ -1,4 +1,4 @@
-use Rattle.std.proofs.Common.{Bool, ◌≡◌, ◌*◌, ◌<◌, length, Some, Err, Ok, ap, ◌∙◌, refl}
+use Rattle.std.proofs.Common.{Bool, ◌≡◌, length, Some, Err, Ok, ap, ◌∙◌, refl}
 use Rattle.hier_types.proofs.CallLemmas.{Makes-read}
 use Rattle.hier_types.proofs.LineLemmas.{line_of_lines}
 use Rattle.hier_machine.specs.Held.{Entry, entry_of}

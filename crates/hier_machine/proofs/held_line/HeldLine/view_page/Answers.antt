@@ -1,5 +1,5 @@
-use Rattle.std.proofs.Common.{◌≡◌, ◌∙◌, ◌+◌, ◌*◌, ◌++◌, ◌<◌, List, ℕ, length, slice_get, Some, take, drop, refl, sym, ap, arith}
-use Rattle.std.proofs.Math.Seq.{take-add, take-length}
+use Rattle.std.proofs.Common.{◌≡◌, ◌∙◌, ◌+◌, ◌*◌, ◌++◌, slice_get, Some, take, drop, sym, ap, arith}
+use Rattle.std.proofs.Math.Seq.{take-length}
 use Rattle.hier_types.specs.Lines.{flatten}
 use Rattle.hier_machine.specs.Held.{overlay}
 use Rattle.hier_machine.proofs.HeldLemmas.{next_line}

@@ -1,4 +1,4 @@
-use Rattle.std.proofs.Common.{◌≡◌, ◌*◌, ◌+◌, ◌-◌, ◌/◌, ◌%◌, ◌<◌, length, arith}
+use Rattle.std.proofs.Common.{◌≡◌, ◌*◌, ◌-◌, ◌/◌, ◌%◌, ◌<◌, length, arith}
 use Rattle.hier_types.specs.Span.{line_at}
 use Rattle.hier_machine.proofs.HeldLemmas.{held_poke, held_is}
 use Rattle.hier_machine.proofs.held_line.HeldLinePort.poke.Goals as goal

@@ -1,10 +1,10 @@
-use Rattle.std.proofs.Common.{◌≡◌, ◌*◌, ◌<◌, length, Some, Err, Ok, ap, sym, ◌∙◌, arith, refl}
+use Rattle.std.proofs.Common.{◌≡◌, ◌*◌, ◌<◌, length, Err, Ok, ap, sym, ◌∙◌, arith, refl}
 use Rattle.std.proofs.lemmas.List.{length-set}
 use Rattle.hier_types.specs.Lines.{flatten}
-use Rattle.hier_types.proofs.CallLemmas.{Makes-write, Makes-write_then, Makes-weaker}
+use Rattle.hier_types.proofs.CallLemmas.{Makes-write, Makes-write_then}
 use Rattle.hier_types.proofs.LineLemmas.{lines-set}
 use Rattle.hier_machine.specs.Held.{entry_of}
-use Rattle.hier_machine.proofs.HeldLemmas.{Touches-clean, Touches-refused, Touches-written, overlay_clean, written_clean}
+use Rattle.hier_machine.proofs.HeldLemmas.{Touches-refused, Touches-written, overlay_clean, written_clean}
 use Rattle.hier_machine.proofs.held_line.HeldLinePort.touch.Goals as goal
 
 pub returns-then-not-self-clause-bytes : goal.returns-then-not-self-clause-bytes

@@ -1,4 +1,4 @@
-use Rattle.std.proofs.Common.{◌≡◌, ℕ, ◌*◌, List, length, sym, ◌∙◌, ap, arith}
+use Rattle.std.proofs.Common.{◌≡◌, ℕ, ◌*◌, length, ◌∙◌, ap, arith}
 use Rattle.hier_types.specs.Lines.{flatten}
 use Rattle.hier_types.specs.Span.{Span}
 use Rattle.hier_types.specs.Tabulate.{tabulate}

@@ -1,4 +1,4 @@
-use Rattle.std.proofs.Common.{◌≡◌, ◌<◌, ◌≤◌, ◌∙◌, ◌+◌, ◌%◌, length, slice_get, Some, refl, sym, ap, subst, arith}
+use Rattle.std.proofs.Common.{◌≡◌, ◌<◌, ◌≤◌, ◌∙◌, length, slice_get, Some, refl, sym, ap, subst, arith}
 use Rattle.hier_types.specs.Beats.{IsBeatWord}
 use Rattle.hier_machine.specs.contracts.machine.Machine.{the_view}
 use Rattle.hier_machine.specs.Called.{Output}

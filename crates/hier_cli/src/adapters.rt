@@ -1,0 +1,124 @@
+// The real file and streams. They tell none of their bytes: what the system gives or takes no contract can say.
+ghost use Rattle.std.specs.Prelude.{◌≤◌, None, IfOk, length};
+
+use hier_types::{Failed, Shelf, ShelfFault, Sink, Source};
+use std::alloc::Global;
+use std::io::{Read, Write};
+use std::rt::Files;
+use std::{fs, io};
+
+/// The bytes that are asked of a file at a time.
+const CHUNK: usize = 65_536;
+
+/// A stream that is read, such as standard input.
+#[derive(Drop)]
+pub struct StreamSource<R: Read> {
+    stream: R,
+    faults: u64,
+}
+
+impl<R: Read> StreamSource<R> {
+    pub fn new(stream: R) -> Self {
+        StreamSource { stream, faults: 0 }
+    }
+}
+
+impl<R: Read> Source for StreamSource<R> {
+    ghost left = { λ _. None };
+
+    ghost faults = { λ s. s.faults };
+
+    fn read(&mut self, into: &mut [u8]) -> Result<usize, Failed> {
+        let mut count = 0;
+        while count < into.len() {
+            match self.stream.read(&mut into[count..]) {
+                Ok(0) => break,
+                Ok(more) => count += more,
+                Err(_) => {
+                    self.faults = self.faults.saturating_add(1);
+                    return Err(Failed);
+                }
+            }
+        }
+        Ok(count)
+    }
+}
+
+/// A stream that is written, such as standard output. Each write is flushed.
+#[derive(Drop)]
+pub struct StreamSink<W: Write> {
+    stream: W,
+    faults: u64,
+}
+
+impl<W: Write> StreamSink<W> {
+    pub fn new(stream: W) -> Self {
+        StreamSink { stream, faults: 0 }
+    }
+}
+
+impl<W: Write> Sink for StreamSink<W> {
+    ghost written = { λ _. None };
+
+    ghost faults = { λ s. s.faults };
+
+    fn write(&mut self, bytes: &[u8]) -> Result<(), Failed> {
+        if self.stream.write_all(bytes).is_err() || self.stream.flush().is_err() {
+            self.faults = self.faults.saturating_add(1);
+            return Err(Failed);
+        }
+        Ok(())
+    }
+}
+
+/// The files of the system.
+#[derive(Drop)]
+pub struct FileShelf<R: Files> {
+    files: R,
+    faults: u64,
+}
+
+impl<R: Files> FileShelf<R> {
+    pub fn new(files: R) -> Self {
+        FileShelf { files, faults: 0 }
+    }
+}
+
+impl<R: Files> Shelf for FileShelf<R> {
+    ghost files = { λ _. None };
+
+    ghost faults = { λ s. s.faults };
+
+    fn load(&mut self, alloc: Global, name: &str, limit: u64) -> Result<Vec<u8>, ShelfFault> {
+        let result = match fs::open(&self.files, name) {
+            Ok(mut file) => read_up_to(alloc, &mut file, limit),
+            Err(_) => Err(ShelfFault::Failed),
+        };
+        if matches!(&result, Err(ShelfFault::Failed)) {
+            self.faults = self.faults.saturating_add(1);
+        }
+        result
+    }
+}
+
+/// All bytes of a reader, if there are at most so many.
+fn read_up_to<R: Read>(alloc: Global, reader: &mut R, limit: u64) -> Result<Vec<u8>, ShelfFault>
+    ensures { IfOk result (λ file. length file.items ≤ limit) }
+{
+    let mut bytes = Vec::new(alloc);
+    let mut chunk = [0; CHUNK];
+    for _ in 0..limit.saturating_add(1) {
+        let count = match reader.read(&mut chunk) {
+            Ok(count) => count,
+            Err(_) => return Err(ShelfFault::Failed),
+        };
+        if count == 0 {
+            break;
+        }
+        if bytes.len() as u64 + count as u64 > limit {
+            return Err(ShelfFault::TooLong);
+        }
+        bytes.extend_from_slice(&chunk[..count])?;
+    }
+    Ok(bytes)
+}

@@ -1,0 +1,47 @@
+//! The program: words, a file and streams in, a status out. Contracts see what stands outside as files and bytes that
+//! are told or not, and give each end its cause by the flat run of the file's program. It knows no cache and no page.
+#![tactic(auto)]
+
+mod adapters;
+mod status;
+mod top;
+
+pub use status::{End, Status};
+pub use top::hiersim;
+
+use adapters::{FileShelf, StreamSink, StreamSource};
+use std::process::ExitCode;
+use std::{env, io};
+
+/// The words after the program's name, or none where one is not text.
+fn words(rt: &HostRuntime) -> Result<Vec<String>, io::ErrorKind> {
+    let mut words = Vec::new(rt.alloc());
+    let args = match env::args(rt) {
+        Ok(args) => args,
+        Err(error) => return Err(error.kind()),
+    };
+    for word in args.skip(1) {
+        if words.push(word).is_err() {
+            return Err(io::ErrorKind::OutOfMemory);
+        }
+    }
+    Ok(words)
+}
+
+fn main(rt: HostRuntime) -> ExitCode {
+    let words = match words(&rt) {
+        Ok(words) => words,
+        Err(io::ErrorKind::OutOfMemory) => return ExitCode::from(Status::of(End::NoMemory).code),
+        Err(_) => Vec::new(rt.alloc()),
+    };
+    let status = hiersim(
+        &rt,
+        rt.alloc(),
+        &words,
+        &mut FileShelf::new(&rt),
+        &mut StreamSource::new(rt.stdin()),
+        &mut StreamSink::new(rt.stdout()),
+        &mut StreamSink::new(rt.stderr()),
+    );
+    ExitCode::from(status.code)
+}
