@@ -7,5 +7,5 @@ use Rattle.hier_types.specs.Plain.{Plain, PlainAnswers}
 
 -- a refusal has its cause
 pub plain_refuses : (old new : Plain) (line : ℕ) (lines : List (List ℕ)) (refusal : NoSpace) → PlainAnswers {T = Unit {0}} old line (Err refusal) lines new
-  → Refuses {T = Unit {0}} old.stops new.stops (λ n. new.last ≡ Some n) (Err refusal)
+    → Refuses {T = Unit {0}} old.stops new.stops (λ n. new.last ≡ Some n) (Err refusal)
 plain_refuses old new line lines refusal h = rw h.2 (record { later = later_raised old.stops; rose = omega arith; justified = refl })

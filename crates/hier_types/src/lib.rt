@@ -13,6 +13,8 @@ mod settings;
 mod shelf;
 mod sink;
 mod source;
+#[cfg(test)]
+mod tests;
 mod units;
 
 pub use beats::{Beat, BeatWord};
