@@ -10,6 +10,8 @@ use crate::geometry::Geometry;
 pub enum Codec {
     /// Base-delta-immediate lines.
     Bdi,
+    /// Lines of frequent patterns.
+    Fpc,
 }
 
 /// The sizes of the hierarchy, and how a run goes. `docs/FORMATS.md` has the rule of each.

@@ -1,0 +1,4 @@
+pub mod BytesLemmas
+pub mod DeltaLemmas
+pub mod RoundTrip
+pub mod RowLemmas
