@@ -6,6 +6,8 @@
 mod fields;
 mod image;
 mod plain;
+#[cfg(test)]
+mod tests;
 
 pub use image::Image;
 pub use plain::{PlainFault, read_plain};

@@ -42,4 +42,4 @@ line_of_page image page index inside =
     let size : 4096 ≡ 64 * index + (64 + rest) = omega arith in
     ap (λ n. take 64 (drop (64 * index) (tabulate f n))) size ∙ part-tabulate f (64 * index) 64 rest
     ∙ tabulate-same 0 (λ j. f (64 * index + j)) (λ j. byte_at image.span image.file (64 * (64 * page + index) + j)) 64
-      (λ k lt. let at : 4096 * page + (64 * index + k) ≡ 64 * (64 * page + index) + k = omega arith in ap (byte_at image.span image.file) at)
+    (λ k lt. let at : 4096 * page + (64 * index + k) ≡ 64 * (64 * page + index) + k = omega arith in ap (byte_at image.span image.file) at)

@@ -24,17 +24,17 @@ lines_of_buffer span at count line last some f l =
 
 -- what was copied of the lines so far, and of one more
 pub copied_more : (span : Span) (bytes : List ℕ) (line at : ℕ) (old new : List ℕ) → CopiesLine span bytes line at old new
-  → ((k : ℕ) → k < length old → line_at span (at + k) < line → get_or old k 0 ≡ get_or bytes (at + k - first span) 0)
-  → (k : ℕ) → k < length new → line_at span (at + k) < line + 1 → get_or new k 0 ≡ get_or bytes (at + k - first span) 0
+    → ((k : ℕ) → k < length old → line_at span (at + k) < line → get_or old k 0 ≡ get_or bytes (at + k - first span) 0)
+    → (k : ℕ) → k < length new → line_at span (at + k) < line + 1 → get_or new k 0 ≡ get_or bytes (at + k - first span) 0
 copied_more span bytes line at old new copies before k inside below =
     let inside_old : k < length old = omega (arith, copies.len) in
     copies.each k inside_old
     ∙ elim (line_at span (at + k) == line) as (λ b. (line_at span (at + k) == line) ≡ b → cond b (get_or bytes (at + k - first span) 0) (get_or old k 0) ≡ get_or bytes (at + k - first span) 0)
-      [ true ↦ λ e. refl | false ↦ λ e. before k inside_old (grind (arith, nat_tests)) ] refl
+    [ true ↦ λ e. refl | false ↦ λ e. before k inside_old (grind (arith, nat_tests)) ] refl
 
 -- a buffer with the right bytes at each place
 pub part_by_index : (bytes into : List ℕ) (place count : ℕ) → length into ≡ count → place + count ≤ length bytes → ((k : ℕ) → k < count → get_or into k 0 ≡ get_or bytes (place + k) 0) → into ≡ take count (drop place bytes)
 part_by_index bytes into place count len fits same =
     tabulate-by_index 0 (λ k. get_or bytes (place + k) 0) count into len same
     ∙ sym (tabulate-by_index 0 (λ k. get_or bytes (place + k) 0) count (take count (drop place bytes)) (length-take-le count (drop place bytes) (omega (arith, length-drop place bytes)))
-      (λ k lt. get_or-take count (drop place bytes) k 0 lt ∙ get_or-drop place bytes k 0))
+    (λ k lt. get_or-take count (drop place bytes) k 0 lt ∙ get_or-drop place bytes k 0))

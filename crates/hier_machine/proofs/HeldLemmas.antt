@@ -29,14 +29,14 @@ held_is false kept n e = cc
 
 -- a byte of the held line is the byte of the memory
 pub held_byte : (lines : List (List ℕ)) (kept : Option LineNo) (k : LineNo) (bytes : List ℕ) (j p : ℕ) → AreLines lines → length bytes ≡ 64 → kept ≡ Some k → k.0 < length lines → j < 64 → p ≡ 64 * k.0 + j
-  → get_or bytes j 0 ≡ get_or (flatten (overlay lines kept bytes)) p 0
+    → get_or bytes j 0 ≡ get_or (flatten (overlay lines kept bytes)) p 0
 held_byte lines kept k bytes j p whole full e inside within place =
     rw e (sym (byte_of_line (set lines k.0 bytes) k.0 j p (lines-set lines k.0 bytes whole full) (rw length-set inside) within place
     ∙ ap (λ l. get_or l j 0) (get_or-set_same lines k.0 bytes [] inside)))
 
 -- a byte of the held line is changed in the memory
 pub held_poke : (lines : List (List ℕ)) (kept : Option LineNo) (k : LineNo) (bytes : List ℕ) (j p b : ℕ) → AreLines lines → length bytes ≡ 64 → kept ≡ Some k → k.0 < length lines → j < 64 → p ≡ 64 * k.0 + j
-  → flatten (overlay lines kept (set bytes j b)) ≡ set (flatten (overlay lines kept bytes)) p b
+    → flatten (overlay lines kept (set bytes j b)) ≡ set (flatten (overlay lines kept bytes)) p b
 held_poke lines kept k bytes j p b whole full e inside within place =
     rw e (sym (sym (flatten-set (set lines k.0 bytes) k.0 j p b (lines-set lines k.0 bytes whole full) (rw length-set inside) within place)
     ∙ ap (λ l. flatten (set (set lines k.0 bytes) k.0 (set l j b))) (get_or-set_same lines k.0 bytes [] inside)
@@ -64,22 +64,22 @@ written_clean lines kept k x bytes e lt f = let same : x ≡ k = cc in rw same (
 
 -- another line is kept, and is as below
 pub Touches-clean : (kept : Option LineNo) (k : LineNo) (line : ℕ) (bytes : List ℕ) (poked : Bool) (calls : List Call) (result : Answer) (after : Option Entry) → kept ≡ Some k → (k.0 == line) ≡ false → poked ≡ false
-  → Brings (entry_of kept bytes poked) line result after calls → Touches (entry_of kept bytes poked) line result after calls
+    → Brings (entry_of kept bytes poked) line result after calls → Touches (entry_of kept bytes poked) line result after calls
 Touches-clean kept k line bytes poked calls result after e other idle brings = rw (e, other, idle) (rw (e, idle) at brings)
 
 -- another line is kept and poked, and its write is refused
 pub Touches-refused : (kept : Option LineNo) (k : LineNo) (line : ℕ) (bytes : List ℕ) (poked : Bool) (refusal : NoSpace) → kept ≡ Some k → (k.0 == line) ≡ false → poked ≡ true
-  → Touches (entry_of kept bytes poked) line (Err refusal) (entry_of kept bytes poked) (Write k.0 bytes (Err refusal) ∷ [])
+    → Touches (entry_of kept bytes poked) line (Err refusal) (entry_of kept bytes poked) (Write k.0 bytes (Err refusal) ∷ [])
 Touches-refused kept k line bytes poked refusal e other dirty = rw (e, other, dirty) (refl, refl, refl, refl)
 
 -- another line is kept and poked, and is written
 pub Touches-written : (kept : Option LineNo) (k : LineNo) (line : ℕ) (bytes : List ℕ) (poked : Bool) (calls : List Call) (result : Answer) (after : Option Entry) → kept ≡ Some k → (k.0 == line) ≡ false → poked ≡ true
-  → Brings (entry_of kept bytes false) line result after calls → Touches (entry_of kept bytes poked) line result after (Write k.0 bytes (Ok tt) ∷ calls)
+    → Brings (entry_of kept bytes false) line result after calls → Touches (entry_of kept bytes poked) line result after (Write k.0 bytes (Ok tt) ∷ calls)
 Touches-written kept k line bytes poked calls result after e other dirty brings = rw (e, other, dirty) (refl, refl, rw e at brings)
 
 -- the bytes of a page up to the next line
 pub next_line : (lines : List (List ℕ)) (kept : Option LineNo) (bytes : List ℕ) (page index : ℕ) (line : List ℕ) → AreLines lines → length bytes ≡ 64 → slice_get (overlay lines kept bytes) (64 * page + index) ≡ Some line
-  → take (64 * index) (drop (4096 * page) (flatten (overlay lines kept bytes))) ++ line ≡ take (64 * (index + 1)) (drop (4096 * page) (flatten (overlay lines kept bytes)))
+    → take (64 * index) (drop (4096 * page) (flatten (overlay lines kept bytes))) ++ line ≡ take (64 * (index + 1)) (drop (4096 * page) (flatten (overlay lines kept bytes)))
 next_line lines kept bytes page index line whole full at =
     let memory = flatten (overlay lines kept bytes) in
     let rest = drop (4096 * page) memory in

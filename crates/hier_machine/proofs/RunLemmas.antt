@@ -97,8 +97,17 @@ stepped start a b first second so meets lt faults step = record {
 passed : (start a b : State) (first second : Output) → RunsSoFar start a first → Meets first second → second.faults_before ≤ second.faults_now → b ≡ a → second.after ≡ second.before → RunsSoFar start b (over first second)
 passed start a b first second so meets faults same quiet =
     rw same (record {
-      bytes = so.bytes; wrote = rw (quiet, meets.bytes) so.wrote; flat = so.flat; count = so.count; span = so.span; budget = so.budget; beats = so.beats; running = so.running;
-      within = so.within; later = so.later; faults = omega (arith, so.faults, meets.faults);
+      bytes = so.bytes;
+      wrote = rw (quiet, meets.bytes) so.wrote;
+      flat = so.flat;
+      count = so.count;
+      span = so.span;
+      budget = so.budget;
+      beats = so.beats;
+      running = so.running;
+      within = so.within;
+      later = so.later;
+      faults = omega (arith, so.faults, meets.faults);
     })
 
 -- a beat after which the run goes on
@@ -109,9 +118,9 @@ runs_on Cleaner start a b first second so meets lt faults h = passed start a b f
 
 -- the flat run ends with the step that stands next
 ends_as : (start a b : State) (end : FlatEnd) (outcome : Outcome) (first second : Output) → RunsSoFar start a first → Meets first second → a.retired < a.budget → second.after ≡ second.before
-  → ((input output : List ℕ) → flat_step a.span (flat_of a input output) ≡ outcome)
-  → ((input output : List ℕ) → goes_on outcome (flat_of a input output) (flat_run a.span (a.budget - (a.retired + 1))) ≡ (end, flat_of b input output))
-  → EndsAs start end b (over first second)
+    → ((input output : List ℕ) → flat_step a.span (flat_of a input output) ≡ outcome)
+    → ((input output : List ℕ) → goes_on outcome (flat_of a input output) (flat_run a.span (a.budget - (a.retired + 1))) ≡ (end, flat_of b input output))
+    → EndsAs start end b (over first second)
 ends_as start a b end outcome first second so meets lt quiet step is = record {
   bytes = so.bytes;
   wrote = rw (quiet, meets.bytes) so.wrote;

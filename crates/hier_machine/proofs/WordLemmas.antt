@@ -50,14 +50,15 @@ gap_falls beats place beat has at other inside =
     let here : gap beats place ≡ before_hart (drop (suc place) beats ++ beats) + 1 =
     ap (λ rest. before_hart (rest ++ beats)) (drop_at beats place beat at) ∙ ap (λ b. cond b 0 (before_hart (drop (suc place) beats ++ beats) + 1)) other in
     elim (cases_lt (place + 1) (length beats)) [
-      inl more ↦
-        (let next : (place + 1) % length beats ≡ suc place = mod-eq_of_lt more ∙ suc_is place in
-         ap (λ n. gap beats n + 1) next ∙ sym here)
-    | inr last ↦
-        (let all : place + 1 ≡ length beats = omega arith in
-         let next : (place + 1) % length beats ≡ 0 = ap (λ n. n % length beats) all ∙ mod_self (length beats) in
-         let none : drop (suc place) beats ≡ [] = drop_all beats (suc place) (omega arith) in
-         ap (λ n. gap beats n + 1) next ∙ ap (λ n. n + 1) (before_hart-append beats beats has) ∙ sym (here ∙ ap (λ rest. before_hart (rest ++ beats) + 1) none)) ]
+      | inl more ↦
+          (let next : (place + 1) % length beats ≡ suc place = mod-eq_of_lt more ∙ suc_is place in
+          ap (λ n. gap beats n + 1) next ∙ sym here)
+      | inr last ↦
+          (let all : place + 1 ≡ length beats = omega arith in
+          let next : (place + 1) % length beats ≡ 0 = ap (λ n. n % length beats) all ∙ mod_self (length beats) in
+          let none : drop (suc place) beats ≡ [] = drop_all beats (suc place) (omega arith) in
+          ap (λ n. gap beats n + 1) next ∙ ap (λ n. n + 1) (before_hart-append beats beats has) ∙ sym (here ∙ ap (λ rest. before_hart (rest ++ beats) + 1) none))
+    ]
 
 -- how far a run still is from its end: the instructions that the budget leaves, and the beats before the hart's next
 abbrev pub work_left : State → ℕ → ℕ
@@ -72,7 +73,7 @@ idle_shrinks a b place beat word at other inside same =
 
 -- each beat brings the end nearer
 pub work_shrinks : (beat : Beat) (a b : State) (out : Output) (place count : ℕ) → IsBeatWord a.beats → slice_get a.beats place ≡ Some beat → count ≡ length a.beats → place < count → a.retired < a.budget
-  → Beats beat a None b out → work_left b ((place + 1) % count) < work_left a place
+    → Beats beat a None b out → work_left b ((place + 1) % count) < work_left a place
 work_shrinks Hart a b out place count word at len inside lt h =
     let short : length b.beats ≤ 64 = rw h.goes.beats word.short in
     omega (arith, h.goes.budget, h.goes.retired, gap-le b.beats ((place + 1) % count) short)

@@ -9,6 +9,8 @@ mod gather;
 mod held_line;
 mod loading;
 mod machine;
+#[cfg(test)]
+mod tests;
 
 pub use ends::{MachineEnd, OpenFault, Part};
 pub use machine::Machine;

@@ -32,16 +32,16 @@ poked_at span h aligned inside = ap (λ b. cond b (pokes_of_word span (decoded (
 
 -- a word that is no instruction: its line is touched, and nothing else
 pub made_none : {P : Type 0} (did_touch : P → ℕ → Answer → P → Type 0) (did_poke : P → ℕ → ℕ → P → Type 0) (before after : P) (span : Span) (h : Hart)
-  → h.pc % 4 ≡ 0 → Has span h.pc → decoded (fetched span h) ≡ None → did_touch before (line_at span h.pc) (Ok tt) after
-  → MadeInOrder did_touch did_poke before (touched span h) (poked span h) None after
+    → h.pc % 4 ≡ 0 → Has span h.pc → decoded (fetched span h) ≡ None → did_touch before (line_at span h.pc) (Ok tt) after
+    → MadeInOrder did_touch did_poke before (touched span h) (poked span h) None after
 made_none t p a b span h aligned inside none did =
     rw (touched_at span h aligned inside, poked_at span h aligned inside, none)
     (made_touch t p a b (line_at span h.pc) [] [] None b did (made_pokes t p b [] b refl))
 
 -- four pokes, one address after another, of the bytes of a word
 pub word_poked : {P : Type 0} (did_touch : P → ℕ → Answer → P → Type 0) (did_poke : P → ℕ → ℕ → P → Type 0) (a b c d e : P) (at value : ℕ) (bytes : List ℕ) → bytes ≡ to_le_bytes w32 value
-  → did_poke a at (get_or bytes 0 0) b → did_poke b (at + 1) (get_or bytes 1 0) c → did_poke c (at + 2) (get_or bytes 2 0) d → did_poke d (at + 3) (get_or bytes 3 0) e
-  → PortMade did_touch did_poke a (poke_calls (addressed at (to_le_bytes w32 value))) e
+    → did_poke a at (get_or bytes 0 0) b → did_poke b (at + 1) (get_or bytes 1 0) c → did_poke c (at + 2) (get_or bytes 2 0) d → did_poke d (at + 3) (get_or bytes 3 0) e
+    → PortMade did_touch did_poke a (poke_calls (addressed at (to_le_bytes w32 value))) e
 word_poked t p a b c d e at value bytes same w x y z =
     let two : at + 2 ≡ at + 1 + 1 = omega arith in
     let three : at + 3 ≡ at + 1 + 1 + 1 = omega arith in

@@ -15,7 +15,7 @@ widened a x y fits is back = rw (back, is) (ap (cast_signed w32) (of_z-to_z fits
 
 -- the product does not leave 64 bits
 pub signed_product : (a b : ℕ) (x y u v : ℤ) → Fits w32 a → Fits w32 b → x ≡ cast_signed w32 a → y ≡ cast_signed w32 b → u ≡ cast_signed w32 (cast_unsigned w32 x) → v ≡ cast_signed w32 (cast_unsigned w32 y)
-  → cast_signed w64 (cast_unsigned w64 (cast_signed w64 (cast_unsigned w64 u) *ℤ cast_signed w64 (cast_unsigned w64 v))) ≡ cast_signed w32 a *ℤ cast_signed w32 b
+    → cast_signed w64 (cast_unsigned w64 (cast_signed w64 (cast_unsigned w64 u) *ℤ cast_signed w64 (cast_unsigned w64 v))) ≡ cast_signed w32 a *ℤ cast_signed w32 b
 signed_product a b x y u v fa fb ex ey eu ev =
     let sa = cast_signed w32 a in
     let sb = cast_signed w32 b in

@@ -7,6 +7,8 @@ mod alu;
 mod data;
 mod hart;
 mod regs;
+#[cfg(test)]
+mod tests;
 
 pub use hart::{Did, Ended, step};
 pub use regs::Regs;

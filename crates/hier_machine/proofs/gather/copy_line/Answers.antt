@@ -17,5 +17,5 @@ returns g c =
       each = λ k inside. let at = c.args.at + k - first span in
           so.each k (omega (arith, c.loop-place.auto.into))
           ∙ ap (λ (b : Bool). cond b (get_or bytes at 0) (get_or old k 0))
-            (same_bytes span c.args.at (length old) c.args.line.0 k c.max-from.result c.min-to.result c.loop-place.place c.requires.low from to so.within c.loop-place-test.false inside);
+          (same_bytes span c.args.at (length old) c.args.line.0 k c.max-from.result c.min-to.result c.loop-place.place c.requires.low from to so.within c.loop-place-test.false inside);
     }

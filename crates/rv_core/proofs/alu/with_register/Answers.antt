@@ -7,6 +7,6 @@ pub returns-in-Mulh : goal.returns-in-Mulh
 returns-in-Mulh c =
     rw c.in-Mulh.is
     (c.high_bits.ensures
-     ∙ ap high_half
-     (signed_product c.args.a c.args.b c.cast_signed-in-Mulh.result c.cast_signed-in-Mulh-2.result c.from-in-Mulh.result c.from-in-Mulh-2.result c.ranges.a c.ranges.b c.cast_signed-in-Mulh.ensures
-      c.cast_signed-in-Mulh-2.ensures c.from-in-Mulh.ensures c.from-in-Mulh-2.ensures))
+    ∙ ap high_half
+    (signed_product c.args.a c.args.b c.cast_signed-in-Mulh.result c.cast_signed-in-Mulh-2.result c.from-in-Mulh.result c.from-in-Mulh-2.result c.ranges.a c.ranges.b c.cast_signed-in-Mulh.ensures
+    c.cast_signed-in-Mulh-2.ensures c.from-in-Mulh.ensures c.from-in-Mulh-2.ensures))

@@ -12,4 +12,4 @@ returns-clause-made g c =
     let span = g.P.Port.span c.args.port.now in
     rw (data_line_at span (load_width c.args.op) c.args.at ok.0 ok.1)
     (made_touch g.P.Port.did_touch g.P.Port.did_poke c.args.port.now port (line_at span c.args.at) [] [] None port c.in_default.ensures.did
-     (made_pokes g.P.Port.did_touch g.P.Port.did_poke port [] port refl))
+    (made_pokes g.P.Port.did_touch g.P.Port.did_poke port [] port refl))

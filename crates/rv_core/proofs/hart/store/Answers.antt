@@ -15,4 +15,4 @@ returns-clause-made g c =
     let bytes = store_bytes c.args.op c.args.value in
     rw (data_line_at span width c.args.at ok.0 ok.1, data_pokes_at span width c.args.at bytes ok.0 ok.1)
     (made_touch g.P.Port.did_touch g.P.Port.did_poke c.args.port.now port (line_at span c.args.at) [] (addressed c.args.at bytes) None c.store_to.new.port c.in_default.ensures.did
-     (made_pokes g.P.Port.did_touch g.P.Port.did_poke port (addressed c.args.at bytes) c.store_to.new.port c.store_to.ensures.did))
+    (made_pokes g.P.Port.did_touch g.P.Port.did_poke port (addressed c.args.at bytes) c.store_to.new.port c.store_to.ensures.did))

@@ -13,4 +13,4 @@ returns c =
     let at = c.first.result + c.args.number.0 * 4096 in
     tabulate-by_index 0 (λ place. byte_at image.span image.file (4096 * c.args.number.0 + place)) 4096 c.put_load.new.into c.put_load.ensures.len
     (λ k page. c.put_load.ensures.each k page
-     ∙ load_over_zeros image.span image.file c.deref.result.now c.load.result at c.args.number.0 k file load.offset load.start load.size (omega (arith, c.first.ensures.first)) page)
+    ∙ load_over_zeros image.span image.file c.deref.result.now c.load.result at c.args.number.0 k file load.offset load.start load.size (omega (arith, c.first.ensures.first)) page)

@@ -43,4 +43,4 @@ returns-clause-did g c =
     let new = c.bring-2.new.self in
     Makes-write_then c.in-Some.kept.0 old.bytes (Ok tt) c.in_default-write.ensures.did c.bring-2.ensures.did
     (λ calls rest. Touches-written old.kept c.in-Some.kept c.args.line.0 old.bytes old.poked calls c.bring-2.result (entry_of new.kept new.bytes new.poked) c.in-Some.is (sym c.if-eq.ensures)
-     c.if-not-self.false rest)
+    c.if-not-self.false rest)

@@ -1,0 +1,89 @@
+use super::*;
+use elf_image::read_plain;
+use hier_types::{Beat, BeatWord, BytesSource, NullSink, PageNo, Settings};
+use std::alloc::Global;
+use std::test::Fail;
+
+/// A plain program at 00010000 that counts in x5 for ever: `addi x5, x5, 1` and `jal x0, -4`.
+const COUNTING: [u8; 92] = [
+    0x7f, b'E', b'L', b'F', 1, 1, 1, 0, 0, 0, 0, 0, 0, 0, 0, 0, 2, 0, 243, 0, 1, 0, 0, 0, 0, 0, 1,
+    0, 52, 0, 0, 0, 0, 0, 0, 0, 0, 0, 0, 0, 52, 0, 32, 0, 1, 0, 0, 0, 0, 0, 0, 0, 1, 0, 0, 0, 84,
+    0, 0, 0, 0, 0, 1, 0, 0, 0, 0, 0, 8, 0, 0, 0, 8, 0, 0, 0, 5, 0, 0, 0, 4, 0, 0, 0, 0x93, 0x82,
+    0x12, 0x00, 0x6f, 0xf0, 0xdf, 0xff,
+];
+
+ghost use Rattle.std.specs.Prelude.{◌≡◌, ◌≤◌, ◌^◌, false, IfOk};
+
+/// The program, opened with a word of beats and a budget.
+fn counting(alloc: Global, beats: &[Beat], budget: u64) -> Result<Machine, Fail>
+    requires { budget ≤ 10 ^ 15 }
+    ensures { IfOk result (λ machine. (machine.ended ≡ false) × (machine.retired ≡ 0) × (machine.span.pages ≡ 4096)) }
+{
+    let mut file = Vec::new(alloc);
+    file.extend_from_slice(&COUNTING)?;
+    let settings = Settings {
+        budget,
+        beats: BeatWord::new(beats).ok_or("no word")?,
+        ..Settings::default()
+    };
+    let image = read_plain(file, settings.geometry)
+        .ok()
+        .ok_or("no plain program")?;
+    Ok(
+        Machine::open(alloc, &settings, &image)
+            .ok()
+            .ok_or("no memory")?,
+    )
+}
+
+#[test]
+fn a_machine_begins_with_its_image(rt: HostRuntime) -> Result<(), Fail> {
+    let machine = counting(rt.alloc(), &[Beat::Hart], 9)?;
+    assert_eq!(rt; machine.regs().pc, 0x1_0000);
+    assert_eq!(rt; machine.regs().x[2], 0x100_ffc0);
+    assert_eq!(rt; machine.retired(), 0);
+    assert!(rt; !machine.ended());
+    let mut page = [7; 4096];
+    machine.view_page(PageNo(0), &mut page);
+    assert_eq!(rt;
+        &page[..10],
+        [0x93, 0x82, 0x12, 0x00, 0x6f, 0xf0, 0xdf, 0xff, 0, 0].as_slice()
+    );
+    machine.view_page(PageNo(4095), &mut page);
+    assert_eq!(rt; page, [0; 4096]);
+    Ok(())
+}
+
+#[test]
+fn beats_of_the_hart_alone_retire(rt: HostRuntime) -> Result<(), Fail> {
+    let alloc = rt.alloc();
+    let mut machine = counting(alloc, &[Beat::Hart], 9)?;
+    let mut input = BytesSource::new(Vec::new(alloc), Vec::new(alloc));
+    assert_eq!(rt; machine.beat(Beat::Mover, &mut input, &mut NullSink), None);
+    assert_eq!(rt; machine.retired(), 0);
+    assert_eq!(rt; machine.beat(Beat::Hart, &mut input, &mut NullSink), None);
+    assert_eq!(rt; machine.retired(), 1);
+    assert_eq!(rt; machine.regs().pc, 0x1_0004);
+    Ok(())
+}
+
+#[test]
+fn budgets_end_runs_and_words_change_none(rt: HostRuntime) -> Result<(), Fail> {
+    let alloc = rt.alloc();
+    let words: [&[Beat]; 3] = [
+        &[Beat::Hart],
+        &[Beat::Mover, Beat::Hart],
+        &[Beat::Cleaner, Beat::Hart, Beat::Hart, Beat::Mover],
+    ];
+    for word in words {
+        for (budget, count) in [(0, 0), (1, 1), (2, 1), (3, 2), (1000, 500)] {
+            let mut machine = counting(alloc, word, budget)?;
+            let mut input = BytesSource::new(Vec::new(alloc), Vec::new(alloc));
+            assert_eq!(rt; machine.run(&mut input, &mut NullSink), MachineEnd::Budget);
+            assert!(rt; machine.ended());
+            assert_eq!(rt; machine.retired(), budget);
+            assert_eq!(rt; machine.regs().x[5], count, "budget {budget}");
+        }
+    }
+    Ok(())
+}
