@@ -80,7 +80,8 @@ fn is_plain_program(file: &[u8], geometry: &Geometry) -> bool
 }
 
 /// Reads an ELF file of 32 bits for RISC-V with one program header, which is a load into the span. Section headers,
-/// alignment, segment flags and the float bits of `e_flags` are ignored (System V gABI, "Object files").
+/// alignment, segment flags and all bits of `e_flags` but the lowest, that of compressed instructions, are ignored
+/// (System V gABI, "Object files"). It takes no memory, so `NoMemory` never comes.
 pub fn read_plain(bytes: Vec<u8>, geometry: Geometry) -> Result<Image, PlainFault>
     ensures ok { IfOk result (λ image. (is_plain geometry bytes.items ≡ true) × (image ≡ record { span = geometry; file = bytes.items })) }
     ensures not_plain { result ≡ Err PlainFault.NotPlain → is_plain geometry bytes.items ≡ false }

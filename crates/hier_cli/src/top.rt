@@ -65,8 +65,8 @@ fn end_of_words<S: Shelf, I: Source, O: Sink>(
 }
 
 /// Does what the words after the program's name ask for: `run FILE` runs the program in the file over the memory
-/// hierarchy. Output, end and memory are those of the same instructions over flat memory. Nothing is read from the
-/// input or written to the note yet.
+/// hierarchy. Output and end are those of the same instructions over flat memory, where the shelf and the output tell
+/// their bytes. Nothing is read from the input or written to the note.
 pub fn hiersim<R: Threads + Sync, S: Shelf, I: Source, O: Sink, N: Sink>(
     _rt: &R,
     alloc: Global,
