@@ -24,18 +24,21 @@ ends file new Budget out plain h = (plain, ran_to file new FlatBudget out h.runs
 ends file new (NotBuilt Call) out plain h = (plain, ran_to file new FlatLacks out h.runs)
 ends file new (NotBuilt Words) out plain h = absurd h.runs
 ends file new (NotBuilt File) out plain h = absurd h.runs
-ends file new OutFault out plain h = (plain, record {
-  hart = hart_in new;
-  bytes = h.runs.bytes;
-  retired = new.retired;
-  within = omega (arith, h.within, h.budget);
-  flat = λ input. let all : new.retired - 0 ≡ new.retired = omega arith in ap (λ n. flat_after span n (start_of span file input)) (sym all) ∙ h.runs.count input [];
-  next = h.runs.next;
-  call = subst (λ s. effect_at s (hart_in new) ≡ Calls) h.span h.runs.stands.call;
-  write = subst (λ s. request_of s (hart_in new) ≡ Write h.runs.next) h.span h.runs.stands.write;
-  went = h.runs.went;
-  rose = h.runs.rose;
-})
+ends file new OutFault out plain h = (
+  plain,
+  record {
+    hart = hart_in new;
+    bytes = h.runs.bytes;
+    retired = new.retired;
+    within = omega (arith, h.within, h.budget);
+    flat = λ input. let all : new.retired - 0 ≡ new.retired = omega arith in ap (λ n. flat_after span n (start_of span file input)) (sym all) ∙ h.runs.count input [];
+    next = h.runs.next;
+    call = subst (λ s. effect_at s (hart_in new) ≡ Calls) h.span h.runs.stands.call;
+    write = subst (λ s. request_of s (hart_in new) ≡ Write h.runs.next) h.span h.runs.stands.write;
+    went = h.runs.went;
+    rose = h.runs.rose;
+  },
+)
 
 -- the end of a machine that began with the file's program is the end of the program
 pub ends_file : (file : List ℕ) (start new : State) (end : MachineEnd) (out : Output) → start ≡ start_state default_settings file → is_plain span file ≡ true → Runs start end new out → EndsFile file out (end_of_machine end)

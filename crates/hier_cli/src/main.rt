@@ -4,14 +4,15 @@
 
 mod adapters;
 mod status;
+#[cfg(test)]
+mod tests;
 mod top;
 
-pub use status::{End, Status};
-pub use top::hiersim;
-
 use adapters::{FileShelf, StreamSink, StreamSource};
+pub use status::{End, Status};
 use std::process::ExitCode;
 use std::{env, io};
+pub use top::hiersim;
 
 /// The words after the program's name, or none where one is not text.
 fn words(rt: &HostRuntime) -> Result<Vec<String>, io::ErrorKind> {

@@ -48,8 +48,10 @@ fn end_of_words<S: Shelf, I: Source, O: Sink>(
     out: &mut O,
 ) -> End
     ensures cause { HasEndCause words.now (record {
-        files = S.files shelf.old; faults_before = S.faults shelf.old; faults_now = S.faults shelf.new;
-        output = record { before = O.written out.old; after = O.written out.new; faults_before = O.faults out.old; faults_now = O.faults out.new };
+      files = S.files shelf.old;
+      faults_before = S.faults shelf.old;
+      faults_now = S.faults shelf.new;
+      output = record { before = O.written out.old; after = O.written out.new; faults_before = O.faults out.old; faults_now = O.faults out.new };
     }) result }
     ensures input { input.new ≡ input.old }
 {
@@ -77,8 +79,10 @@ pub fn hiersim<R: Threads + Sync, S: Shelf, I: Source, O: Sink, N: Sink>(
     _note: &mut N,
 ) -> Status
     ensures cause { HasEndCause words.now (record {
-        files = S.files shelf.old; faults_before = S.faults shelf.old; faults_now = S.faults shelf.new;
-        output = record { before = O.written out.old; after = O.written out.new; faults_before = O.faults out.old; faults_now = O.faults out.new };
+      files = S.files shelf.old;
+      faults_before = S.faults shelf.old;
+      faults_now = S.faults shelf.new;
+      output = record { before = O.written out.old; after = O.written out.new; faults_before = O.faults out.old; faults_now = O.faults out.new };
     }) result.end }
     ensures code { result.code ≡ code_of result.end }
     ensures input { input.new ≡ input.old }

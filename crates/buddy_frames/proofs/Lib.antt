@@ -1,0 +1,8 @@
+pub mod SetLemmas
+pub mod TableLemmas
+pub mod PlaceLemmas
+pub mod EffectLemmas
+pub mod ChoiceLemmas
+pub mod MoveLemmas
+pub mod IndexLemmas
+pub mod CountLemmas

@@ -1,0 +1,5 @@
+pub mod Units
+pub mod FrameByte
+pub mod FrameSets
+pub mod Indexes
+pub mod Kept

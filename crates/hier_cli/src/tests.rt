@@ -1,0 +1,199 @@
+use super::*;
+use hier_machine::Part;
+use hier_types::{BytesSink, BytesSource, ListShelf, NullSink, Source};
+use rv_asm::{demo_program, write_elf};
+use std::alloc::Global;
+use std::test::Fail;
+use std::thread::Threads;
+
+const ECALL: u32 = 0x0000_0073;
+
+/// `addi x10, x0, 3`, `addi x17, x0, 93`, `ecall`.
+const EXIT_THREE: [u32; 3] = [0x0030_0513, 0x05d0_0893, ECALL];
+
+/// Stores `abc` across the border of two lines at 00010FFE, writes it twice, and exits with 0.
+const WRITE_ABC_TWICE: [u32; 17] = [
+    0x0001_15b7, // lui x11, 0x11
+    0xffe5_8593, // addi x11, x11, -2
+    0x0610_0293, // addi x5, x0, 'a'
+    0x0055_8023, // sb x5, 0(x11)
+    0x0620_0293, // addi x5, x0, 'b'
+    0x0055_80a3, // sb x5, 1(x11)
+    0x0630_0293, // addi x5, x0, 'c'
+    0x0055_8123, // sb x5, 2(x11)
+    0x0010_0513, // addi x10, x0, 1
+    0x0030_0613, // addi x12, x0, 3
+    0x0400_0893, // addi x17, x0, 64
+    ECALL,
+    0x0020_0513, // addi x10, x0, 2
+    ECALL,
+    0x0000_0513, // addi x10, x0, 0
+    0x05d0_0893, // addi x17, x0, 93
+    ECALL,
+];
+
+/// The output of the program that is generated from 7: the fold of its words, by the definition of its format.
+const FOLD_OF_SEVEN: [u8; 4] = [0x74, 0xd0, 0xb1, 0x55];
+
+/// What the program left, run on the words with the file `a`.
+#[derive(Drop)]
+struct Left {
+    status: Status,
+    input: Vec<u8>,
+    output: Vec<u8>,
+}
+
+fn copied(alloc: Global, bytes: &[u8]) -> Result<Vec<u8>, Fail> {
+    let mut copy = Vec::new(alloc);
+    copy.extend_from_slice(bytes)?;
+    Ok(copy)
+}
+
+/// Runs the program on words and a file named `a`, with an input of two bytes, and an output that fails where
+/// listed.
+fn run_on<R: Threads + Sync>(
+    rt: &R,
+    alloc: Global,
+    words: &[&str],
+    file: Vec<u8>,
+    fail: Vec<(u64, usize)>,
+) -> Result<Left, Fail> {
+    let mut owned = Vec::new(alloc);
+    for word in words {
+        owned.push(String::from_str(alloc, word)?)?;
+    }
+    let mut files = Vec::new(alloc);
+    files.push((String::from_str(alloc, "a")?, file))?;
+    let mut shelf = ListShelf::new(files, Vec::new(alloc));
+    let mut input = BytesSource::new(copied(alloc, &[1, 2])?, Vec::new(alloc));
+    let mut out = BytesSink::new(alloc, 64, fail).ok().ok_or("no memory")?;
+    let status = hiersim(
+        rt,
+        alloc,
+        &owned,
+        &mut shelf,
+        &mut input,
+        &mut out,
+        &mut NullSink,
+    );
+    let output = copied(alloc, out.bytes())?;
+    let input = copied(alloc, input.left())?;
+    Ok(Left {
+        status,
+        input,
+        output,
+    })
+}
+
+/// The end of `run a` on a program, whose output fails nowhere.
+fn end_of<R: Threads + Sync>(rt: &R, alloc: Global, program: &[u32]) -> Result<End, Fail> {
+    let file = write_elf(alloc, program).ok().ok_or("no memory")?;
+    Ok(
+        run_on(rt, alloc, &["run", "a"], file, Vec::new(alloc))?
+            .status
+            .end,
+    )
+}
+
+#[test]
+fn exits(rt: HostRuntime) -> Result<(), Fail> {
+    let alloc = rt.alloc();
+    let file = write_elf(alloc, &EXIT_THREE).ok().ok_or("no memory")?;
+    let left = run_on(&rt, alloc, &["run", "a"], file, Vec::new(alloc))?;
+    assert_eq!(rt; left.status.end, End::Exit { status: 3 });
+    assert_eq!(rt; left.status.code, 3);
+    assert_eq!(rt; left.input.as_slice(), [1, 2].as_slice());
+    assert_eq!(rt; left.output.as_slice(), [].as_slice());
+    Ok(())
+}
+
+#[test]
+fn words_that_are_not_known(rt: HostRuntime) -> Result<(), Fail> {
+    let alloc = rt.alloc();
+    let not_built = End::NotBuilt { part: Part::Words };
+    let cases: [(&[&str], End); 6] = [
+        (&[], not_built),
+        (&["run"], not_built),
+        (&["image", "a"], not_built),
+        (&["run", "a", "a"], not_built),
+        (&["RUN", "a"], not_built),
+        (&["run", "b"], End::FileFault),
+    ];
+    for (words, end) in cases {
+        let file = write_elf(alloc, &EXIT_THREE).ok().ok_or("no memory")?;
+        let left = run_on(&rt, alloc, words, file, Vec::new(alloc))?;
+        assert_eq!(rt; left.status.end, end);
+        assert_eq!(rt; left.output.as_slice(), [].as_slice());
+    }
+    Ok(())
+}
+
+#[test]
+fn files_that_are_no_programs(rt: HostRuntime) -> Result<(), Fail> {
+    let alloc = rt.alloc();
+    let cases: [&[u8]; 4] = [&[], &[0x7f, b'E', b'L', b'F'], &[0; 51], &[0xa5; 200]];
+    for file in cases {
+        let left = run_on(
+            &rt,
+            alloc,
+            &["run", "a"],
+            copied(alloc, file)?,
+            Vec::new(alloc),
+        )?;
+        assert_eq!(rt; left.status.end, End::NotBuilt { part: Part::File });
+        assert_eq!(rt; left.status.code, 214);
+    }
+    Ok(())
+}
+
+#[test]
+fn writes_reach_the_output(rt: HostRuntime) -> Result<(), Fail> {
+    let alloc = rt.alloc();
+    for (fail, end, code, output) in [
+        (None, End::Exit { status: 0 }, 0, b"abcabc".as_slice()),
+        (Some((1, 2)), End::OutFault, 211, b"abcab".as_slice()),
+    ] {
+        let file = write_elf(alloc, &WRITE_ABC_TWICE).ok().ok_or("no memory")?;
+        let mut faults = Vec::new(alloc);
+        for fault in fail {
+            faults.push(fault)?;
+        }
+        let left = run_on(&rt, alloc, &["run", "a"], file, faults)?;
+        assert_eq!(rt; left.status.end, end);
+        assert_eq!(rt; left.status.code, code);
+        assert_eq!(rt; left.output.as_slice(), output);
+    }
+    Ok(())
+}
+
+#[test]
+fn ends_by_the_program(rt: HostRuntime) -> Result<(), Fail> {
+    let alloc = rt.alloc();
+    let cases: [(&[u32], End); 3] = [
+        (
+            &[0x0060_006f],
+            End::Trap {
+                cause: 0,
+                pc: 0x1_0000,
+                value: 0x1_0006,
+            },
+        ),
+        (&[0x0500_0893, ECALL], End::NotBuilt { part: Part::Call }),
+        (&[0x05e0_0893, ECALL], End::Exit { status: 0 }),
+    ];
+    for (program, end) in cases {
+        assert_eq!(rt; end_of(&rt, alloc, program)?, end);
+    }
+    Ok(())
+}
+
+// The program fills and reads 256 KiB, and folds them to a word.
+#[test]
+fn the_generated_program(rt: HostRuntime) -> Result<(), Fail> {
+    let alloc = rt.alloc();
+    let file = demo_program(alloc, 7).ok().ok_or("no memory")?;
+    let left = run_on(&rt, alloc, &["run", "a"], file, Vec::new(alloc))?;
+    assert_eq!(rt; left.status.end, End::Exit { status: 0 });
+    assert_eq!(rt; left.output.as_slice(), FOLD_OF_SEVEN.as_slice());
+    Ok(())
+}

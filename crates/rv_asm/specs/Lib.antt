@@ -1,0 +1,3 @@
+pub mod Encoding
+pub mod ElfFile
+pub mod Demo
