@@ -1,9 +1,8 @@
-use Rattle.std.proofs.Common.{◌≡◌, ◌∷◌, ◌++◌, ℕ, List, [], refl, ap, ◌∙◌}
+use Rattle.std.proofs.Common.{refl}
 use Rattle.line_codec.specs.Slots.{encoding}
 use Rattle.line_codec.proofs.slots.fpc_encoded.Goals as goal
 
 pub returns-clause-bytes : goal.returns-clause-bytes
 unfolding encoding
 returns-clause-bytes c =
-    let first : c.push.new.self.items ≡ 8 ∷ [] = c.push.ensures.items ∙ ap (λ (xs : List ℕ). xs ++ 8 ∷ []) c.new-bytes.ensures in
-    rw (c.push_bytes.ensures.items, first, c.as_slice.ensures.value, c.in-Some.ensures.encoding) refl
+    rw (c.push_bytes.ensures.items, c.push.ensures.items, c.new-bytes.ensures, c.as_slice.ensures.value, c.in-Some.ensures.encoding) refl
