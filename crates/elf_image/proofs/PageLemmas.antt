@@ -1,5 +1,5 @@
 -- What a load puts over a page, byte by byte.
-use Rattle.std.proofs.Common.{◌≡◌, ◌∙◌, ◌+◌, ◌-◌, ◌*◌, ◌<◌, ◌≤◌, ◌&&◌, ℕ, max, min, List, length, get_or, take, drop, nat_le, nat_lt, true, false, Bool, cond, if◌then◌else◌, replicate, ap, arith, length-drop, refl}
+use Rattle.std.proofs.Common.{◌≡◌, ◌∙◌, ◌+◌, ◌-◌, ◌*◌, ◌<◌, ◌≤◌, ◌&&◌, ℕ, max, min, List, length, get_or, take, drop, nat_le, nat_lt, true, false, Bool, cond, replicate, ap, arith, length-drop, refl}
 use Rattle.std.proofs.lemmas.List.{get_or-take, get_or-drop, get_or-replicate, length-take-le}
 use Rattle.hier_types.specs.Span.{Span, first}
 use Rattle.elf_image.specs.declared.image.Load.{Load}

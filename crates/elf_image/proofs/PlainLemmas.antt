@@ -1,7 +1,7 @@
 -- What the test of a plain file says of its lengths.
-use Rattle.std.proofs.Common.{◌≡◌, ℕ, ◌+◌, ◌<◌, ◌≤◌, List, length, Bool, true, false, ◌&&◌, ◌||◌, nat_le, nat_lt, ◌==◌, refl, arith}
+use Rattle.std.proofs.Common.{◌≡◌, ℕ, ◌+◌, ◌<◌, ◌≤◌, List, length, Bool, true, false, ◌&&◌, nat_le, refl, arith}
 use Rattle.hier_types.specs.Span.{Span}
-use Rattle.elf_image.specs.Plain.{is_plain, has_identity, is_program, has_header, is_load, header_at, offset, file_size, memory_size}
+use Rattle.elf_image.specs.Plain.{is_plain, has_identity, is_program, has_header, is_load, header_at, offset, file_size}
 
 and_true : (a b : Bool) → (a && b) ≡ true → (a ≡ true) × (b ≡ true)
 and_true true true e = (refl, refl)

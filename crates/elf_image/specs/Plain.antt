@@ -1,5 +1,5 @@
 -- Plain programs: ELF files of 32 bits with one program header, which is a load. Places, names and numbers are those of the System V gABI, chapter "Object files", and of the RISC-V psABI.
-use Rattle.std.specs.Prelude.{ℕ, ◌+◌, ◌*◌, ◌%◌, ◌==◌, ◌&&◌, ◌||◌, Bool, nat_le, List, length, slice_index}
+use Rattle.std.specs.Prelude.{ℕ, ◌+◌, ◌%◌, ◌==◌, ◌&&◌, ◌||◌, Bool, nat_le, List, length, slice_index}
 use Rattle.hier_types.specs.Span.{Span, first, past}
 use Rattle.elf_image.specs.Fields.{half, word}
 

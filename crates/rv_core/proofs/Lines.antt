@@ -1,9 +1,9 @@
 -- The lines and pokes of an access that does not trap.
-use Rattle.std.proofs.Common.{◌≡◌, ◌+◌, get_or, ℕ, ◌%◌, ◌-◌, ◌==◌, ◌&&◌, List, [], ◌∷◌, arith, cond, true, None, Ok, refl, ap}
+use Rattle.std.proofs.Common.{◌≡◌, ◌+◌, get_or, ℕ, ◌%◌, List, [], ◌∷◌, arith, cond, true, None, Ok, refl, ap}
 use Rattle.std.specs.Int.{w32, to_le_bytes}
 use Rattle.hier_types.specs.Calls.{Answer}
 use Rattle.hier_types.specs.PortCalls.{MadeInOrder, PortMade, poke_calls}
-use Rattle.hier_types.specs.Span.{Span, Has, has, first, line_at}
+use Rattle.hier_types.specs.Span.{Span, Has, line_at}
 use Rattle.hier_types.proofs.PortCallLemmas.{made_pokes, made_touch, made_refused}
 use Rattle.rv_decode.specs.Table.{decoded}
 use Rattle.rv_core.specs.Effect.{fetched}

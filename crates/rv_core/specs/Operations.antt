@@ -1,5 +1,5 @@
 -- What each operation computes, from registers as whole numbers below 2^32 (RISC-V unprivileged manual, RV32I and M).
-use Rattle.std.specs.Prelude.{ℕ, ℤ, pos, ◌+◌, ◌-◌, ◌*◌, ◌/◌, ◌%◌, ◌^◌, ◌==◌, ◌*ℤ◌, Bool, not, nat_le, nat_lt, if◌then◌else◌, List, bit_and, bit_or, bit_xor, int_div, int_lt, int_rem, slice_index, take}
+use Rattle.std.specs.Prelude.{ℕ, ℤ, pos, ◌+◌, ◌-◌, ◌*◌, ◌/◌, ◌%◌, ◌^◌, ◌==◌, ◌*ℤ◌, Bool, not, nat_lt, if◌then◌else◌, List, bit_and, bit_or, bit_xor, int_div, int_lt, int_rem, slice_index, take}
 use Rattle.std.specs.Int.{w8, w16, w32, w64, cast_signed, cast_unsigned, int_shr, to_le_bytes}
 use Rattle.rv_decode.specs.declared.instruction.BranchOp.{BranchOp}
 use Rattle.rv_decode.specs.declared.instruction.BranchOp.TheVariants.{Beq, Bne, Blt, Bge, Bltu, Bgeu}

@@ -1,7 +1,7 @@
 -- The lines that an instruction touches, in order, and the bytes that it pokes.
 use Rattle.std.specs.Prelude.{ℕ, zero, suc, ◌+◌, ◌-◌, ◌%◌, ◌==◌, ◌&&◌, Bool, if◌then◌else◌, List, [], ◌∷◌, Option, Some, None, Result, Ok, Err, length}
 use Rattle.hier_types.specs.declared.faults.NoSpace.{NoSpace}
-use Rattle.hier_types.specs.Span.{Span, first, has, line_at}
+use Rattle.hier_types.specs.Span.{Span, has, line_at}
 use Rattle.rv_decode.specs.declared.instruction.Instr.{Instr}
 use Rattle.rv_decode.specs.declared.instruction.Instr.TheVariants.{Lui, Auipc, Jal, Jalr, Branch, Load, Store, Imm, Shift, Reg, Fence, FenceI, Ecall, Ebreak}
 use Rattle.rv_decode.specs.Table.{decoded}

@@ -48,21 +48,27 @@ impl Port for PagePort {
     }
 }
 
-/// The page of these words, which begins at 00010000.
-fn page_of(words: &[u32]) -> PagePort {
-    let mut bytes = [0; 4096];
-    for (index, word) in words.iter().enumerate() {
-        for (place, byte) in word.to_le_bytes().iter().enumerate() {
-            if 4 * index + place < 4096 {
-                bytes[4 * index + place] = *byte;
-            }
+impl PagePort {
+    /// Puts a word to its place, where the page has it.
+    fn put(&mut self, index: usize, word: u32) {
+        if index < 1024 {
+            let at = 4 * index;
+            self.bytes[at..at + 4].copy_from_slice(&word.to_le_bytes());
         }
     }
-    PagePort {
-        bytes,
+}
+
+/// The page of these words, which begins at 00010000.
+fn page_of(words: &[u32]) -> PagePort {
+    let mut page = PagePort {
+        bytes: [0; 4096],
         geometry: Geometry { base: 16, pages: 1 },
         held: None,
+    };
+    for (index, word) in words.iter().enumerate() {
+        page.put(index, *word);
     }
+    page
 }
 
 /// pc at the first word, x5 and x6 as given, and every other register 0.

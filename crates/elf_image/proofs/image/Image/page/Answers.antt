@@ -1,4 +1,4 @@
-use Rattle.std.proofs.Common.{◌≡◌, ◌∙◌, ◌+◌, ◌*◌, ℕ, ap, arith}
+use Rattle.std.proofs.Common.{◌≡◌, ◌∙◌, ◌+◌, ◌*◌, ap, arith}
 use Rattle.hier_types.proofs.TableLemmas.{tabulate-by_index}
 use Rattle.elf_image.specs.Image.{Loaded, byte_at}
 use Rattle.elf_image.proofs.PageLemmas.{load_over_zeros}
