@@ -88,6 +88,9 @@ fn run_on<R: Threads + Sync>(
 
 /// The end of `run a` on a program, whose output fails nowhere.
 fn end_of<R: Threads + Sync>(rt: &R, alloc: Global, program: &[u32]) -> Result<End, Fail> {
+    if program.len() > 1000 {
+        return Err("the program is too long".into());
+    }
     let file = write_elf(alloc, program).ok().ok_or("no memory")?;
     Ok(
         run_on(rt, alloc, &["run", "a"], file, Vec::new(alloc))?
