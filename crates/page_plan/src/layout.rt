@@ -1,0 +1,39 @@
+ghost use Rattle.std.specs.Prelude.{◌≡◌, ◌≤◌, ℕ, MatchOption};
+ghost use Rattle.page_plan.specs.Layout.{is_exception, exceptions_of, IsOrderFor};
+
+/// The bytes that a slot of a packed page may have. All 64 slots of a page have the same.
+pub const TARGETS: [u8; 7] = [4, 8, 12, 16, 20, 24, 28];
+
+// Whether a line of this stored size is kept outside its slot.
+fn overflows(size: Option<u8>, target: u8) -> bool
+    ensures { result ≡ is_exception target size }
+{
+    match size {
+        Some(bytes) => bytes > target,
+        None => true,
+    }
+}
+
+// The lines that a slot of `target` bytes does not hold.
+#[tactic(auto, unfolding(crate::specs::Layout::exceptions_of))]
+pub(crate) fn exceptions(sizes: &[Option<u8>; 64], target: u8) -> u8
+    ensures value { result ≡ exceptions_of sizes.now target }
+    ensures high { result ≤ 64 }
+{
+    sizes
+        .iter()
+        .filter(|size| overflows(**size, target))
+        .count() as u8
+}
+
+// The least order of a block that has room for so many chunks.
+pub(crate) fn order_for(chunks: u8) -> Option<u8>
+    ensures { MatchOption result ((k : ℕ) → ¬ IsOrderFor chunks k) (λ k. IsOrderFor chunks k) }
+{
+    match chunks {
+        0..=8 => Some(0),
+        9..=16 => Some(1),
+        17..=32 => Some(2),
+        _ => None,
+    }
+}
