@@ -1,3 +1,5 @@
+ghost use Rattle.std.specs.Prelude.{◌≡◌, IfOk};
+
 use super::*;
 use hier_types::{Geometry, PageNo};
 use std::alloc::Global;
@@ -13,17 +15,28 @@ const PROGRAM: [u8; 88] = [
     4, 0, 0, 0, 0xa1, 0xa2, 0xa3, 0xa4,
 ];
 
-fn program(alloc: Global) -> Result<Vec<u8>, Fail> {
+/// The program with one byte changed.
+fn program_with(alloc: Global, place: usize, byte: u8) -> Result<Vec<u8>, Fail> {
+    let mut bytes = PROGRAM;
+    if place < bytes.len() {
+        bytes[place] = byte;
+    }
     let mut file = Vec::new(alloc);
-    file.extend_from_slice(&PROGRAM)?;
+    file.extend_from_slice(&bytes)?;
     Ok(file)
+}
+
+/// The program in a span of four pages.
+fn image(alloc: Global) -> Result<Image, Fail>
+    ensures { IfOk result (λ image. image.span.pages ≡ 4) }
+{
+    let file = program_with(alloc, 0, 0x7f)?;
+    Ok(read_plain(file, SPAN).ok().ok_or("no plain program")?)
 }
 
 #[test]
 fn a_plain_program_loads(rt: HostRuntime) -> Result<(), Fail> {
-    let image = read_plain(program(rt.alloc())?, SPAN)
-        .ok()
-        .ok_or("not plain")?;
+    let image = image(rt.alloc())?;
     assert_eq!(rt; image.entry(), 0x0001_1000);
     let mut page = [7; 4096];
     image.page(PageNo(0), &mut page);
@@ -55,15 +68,14 @@ fn files_that_are_no_plain_programs(rt: HostRuntime) -> Result<(), Fail> {
         (72, 3),
         (74, 1),
     ] {
-        let mut file = program(rt.alloc())?;
-        file[place] = byte;
+        let file = program_with(rt.alloc(), place, byte)?;
         assert_eq!(rt;
             read_plain(file, SPAN).err(),
             Some(PlainFault::NotPlain),
             "byte {place}"
         );
     }
-    let mut short = program(rt.alloc())?;
+    let mut short = program_with(rt.alloc(), 0, 0x7f)?;
     short.truncate(51);
     assert_eq!(rt; read_plain(short, SPAN).err(), Some(PlainFault::NotPlain));
     Ok(())
@@ -72,8 +84,7 @@ fn files_that_are_no_plain_programs(rt: HostRuntime) -> Result<(), Fail> {
 #[test]
 fn what_is_ignored(rt: HostRuntime) -> Result<(), Fail> {
     for (place, byte) in [(32, 9), (36, 4), (46, 9), (48, 9), (76, 0), (80, 3)] {
-        let mut file = program(rt.alloc())?;
-        file[place] = byte;
+        let file = program_with(rt.alloc(), place, byte)?;
         assert!(rt; read_plain(file, SPAN).is_ok(), "byte {place}");
     }
     Ok(())
