@@ -1,5 +1,8 @@
-// The real file and streams. They tell none of their bytes: what the system gives or takes no contract can say.
-ghost use Rattle.std.specs.Prelude.{◌≤◌, None, IfOk, length};
+// The real file and streams. A sink tells what its stream tells. The streams and files of the system tell none of
+// their bytes: what the system gives or takes no contract can say.
+ghost use Rattle.std.specs.Prelude.{◌≡◌, ◌<◌, ◌≤◌, None, IfOk, IfSome, IsErrOf, OnOk, OnErr, length};
+ghost use Rattle.std.specs.Io.KnownBytes.{Appends};
+ghost use Rattle.hier_types.specs.Outside.{AppendsFront};
 
 use hier_types::{Failed, Shelf, ShelfFault, Sink, Source};
 use std::alloc::Global;
@@ -58,16 +61,35 @@ impl<W: Write> StreamSink<W> {
 }
 
 impl<W: Write> Sink for StreamSink<W> {
-    ghost written = { λ _. None };
+    ghost written = { λ s. W.contents s.stream };
 
     ghost faults = { λ s. s.faults };
 
     fn write(&mut self, bytes: &[u8]) -> Result<(), Failed> {
-        if self.stream.write_all(bytes).is_err() || self.stream.flush().is_err() {
+        let result = write_and_flush(&mut self.stream, bytes);
+        if result.is_err() {
             self.faults = self.faults.saturating_add(1);
-            return Err(Failed);
         }
-        Ok(())
+        result
+    }
+}
+
+/// Writes all the bytes, or a front of them where the stream fails.
+fn write_and_flush<W: Write>(stream: &mut W, bytes: &[u8]) -> Result<(), Failed>
+    ensures ok { OnOk result (Appends (W.contents stream.old) (W.contents stream.new) bytes.now) }
+    ensures err { OnErr result (AppendsFront (W.contents stream.old) (W.contents stream.new) bytes.now) }
+{
+    let mut count = 0;
+    while count < bytes.len() {
+        match stream.write(&bytes[count..]) {
+            Ok(0) => return Err(Failed),
+            Ok(more) => count += more,
+            Err(_) => return Err(Failed),
+        }
+    }
+    match stream.flush() {
+        Ok(()) => Ok(()),
+        Err(_) => Err(Failed),
     }
 }
 
@@ -101,24 +123,25 @@ impl<R: Files> Shelf for FileShelf<R> {
     }
 }
 
-/// All bytes of a reader, if there are at most so many.
+/// All bytes that a reader has left, if there are at most so many.
 fn read_up_to<R: Read>(alloc: Global, reader: &mut R, limit: u64) -> Result<Vec<u8>, ShelfFault>
-    ensures { IfOk result (λ file. length file.items ≤ limit) }
+    ensures bounded { IfOk result (λ file. length file.items ≤ limit) }
+    ensures whole { IfOk result (λ file. IfSome (R.remaining reader.old) (λ all. file.items ≡ all)) }
+    ensures too_long { IsErrOf result ShelfFault.TooLong → IfSome (R.remaining reader.old) (λ all. limit < length all) }
 {
     let mut bytes = Vec::new(alloc);
     let mut chunk = [0; CHUNK];
-    for _ in 0..limit.saturating_add(1) {
+    loop {
         let count = match reader.read(&mut chunk) {
             Ok(count) => count,
             Err(_) => return Err(ShelfFault::Failed),
         };
         if count == 0 {
-            break;
+            return Ok(bytes);
         }
-        if bytes.len() as u64 + count as u64 > limit {
+        if count as u64 > limit - bytes.len() as u64 {
             return Err(ShelfFault::TooLong);
         }
         bytes.extend_from_slice(&chunk[..count])?;
     }
-    Ok(bytes)
 }
