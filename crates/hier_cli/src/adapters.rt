@@ -21,7 +21,11 @@ pub struct StreamSource<R: Read> {
 }
 
 impl<R: Read> StreamSource<R> {
-    pub fn new(stream: R) -> Self {
+    /// A source that has not failed.
+    pub fn new(stream: R) -> Self
+        ensures stream { result.stream ≡ stream }
+        ensures faults { result.faults ≡ 0 }
+    {
         StreamSource { stream, faults: 0 }
     }
 }
@@ -55,7 +59,11 @@ pub struct StreamSink<W: Write> {
 }
 
 impl<W: Write> StreamSink<W> {
-    pub fn new(stream: W) -> Self {
+    /// A sink that has not failed.
+    pub fn new(stream: W) -> Self
+        ensures stream { result.stream ≡ stream }
+        ensures faults { result.faults ≡ 0 }
+    {
         StreamSink { stream, faults: 0 }
     }
 }
@@ -101,7 +109,11 @@ pub struct FileShelf<R: Files> {
 }
 
 impl<R: Files> FileShelf<R> {
-    pub fn new(files: R) -> Self {
+    /// A shelf that has not failed.
+    pub fn new(files: R) -> Self
+        ensures files { result.files ≡ files }
+        ensures faults { result.faults ≡ 0 }
+    {
         FileShelf { files, faults: 0 }
     }
 }
