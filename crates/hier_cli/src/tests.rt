@@ -1,6 +1,7 @@
 use super::*;
+use crate::adapters::{StreamSink, StreamSource};
 use hier_machine::Part;
-use hier_types::{BytesSink, BytesSource, ListShelf, NullSink, Source};
+use hier_types::{BytesSink, BytesSource, Failed, ListShelf, NullSink, Sink, Source};
 use rv_asm::{demo_program, encode, write_elf};
 use rv_decode::{BranchOp, ImmOp, Instr, LoadOp, RegOp, ShiftOp, StoreOp};
 use std::alloc::Global;
@@ -97,6 +98,21 @@ fn end_of<R: Threads + Sync>(rt: &R, alloc: Global, program: &[u32]) -> Result<E
             .status
             .end,
     )
+}
+
+#[test]
+fn streams_carry_bytes(rt: HostRuntime) {
+    let mut source = StreamSource::new(b"abc".as_slice());
+    let mut two = [0; 2];
+    assert_eq!(rt; source.read(&mut two), Ok(2));
+    assert_eq!(rt; two, *b"ab");
+    assert_eq!(rt; source.read(&mut two), Ok(1));
+    assert_eq!(rt; source.read(&mut two), Ok(0));
+    let mut room = [0; 4];
+    let mut sink = StreamSink::new(room.as_mut_slice());
+    assert_eq!(rt; sink.write(b"ab"), Ok(()));
+    assert_eq!(rt; sink.write(b"cde"), Err(Failed));
+    assert_eq!(rt; room, *b"abcd");
 }
 
 #[test]
