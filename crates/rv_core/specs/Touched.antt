@@ -1,5 +1,5 @@
 -- The lines that an instruction touches, in order, and the bytes that it pokes.
-use Rattle.std.specs.Prelude.{ℕ, zero, suc, ◌+◌, ◌-◌, ◌%◌, ◌==◌, ◌&&◌, Bool, if◌then◌else◌, List, [], ◌∷◌, Option, Some, None, Result, Ok, Err, length}
+use Rattle.std.specs.Prelude.{ℕ, ◌+◌, ◌%◌, ◌==◌, ◌&&◌, Bool, if◌then◌else◌, List, [], ◌∷◌, Option, Some, None, Result, Ok, Err}
 use Rattle.hier_types.specs.declared.faults.NoSpace.{NoSpace}
 use Rattle.hier_types.specs.Span.{Span, has, line_at}
 use Rattle.rv_decode.specs.declared.instruction.Instr.{Instr}
@@ -7,7 +7,6 @@ use Rattle.rv_decode.specs.declared.instruction.Instr.TheVariants.{Lui, Auipc, J
 use Rattle.rv_decode.specs.Table.{decoded}
 use Rattle.rv_core.specs.declared.hart.Ended.{Ended}
 use Rattle.rv_core.specs.declared.hart.Ended.TheVariants.{Trap, Stop}
-use Rattle.rv_core.specs.Calls.{Request, Exit, Answer, Write, Unbuilt, request_of}
 use Rattle.rv_core.specs.Effect.{fetched}
 use Rattle.rv_core.specs.Hart.{Hart, bits_of, register, sum}
 use Rattle.rv_core.specs.Operations.{load_width, store_bytes, store_width}
@@ -77,29 +76,6 @@ touched span h = if fetches span h then line_at span h.pc ∷ lines_of_word span
 -- the bytes that the instruction at pc pokes
 unfoldable pub poked : Span → Hart → List (ℕ × ℕ)
 poked span h = if fetches span h then pokes_of_word span (decoded (fetched span h)) h else []
-
--- so many lines, one after another
-abbrev pub lines_from : ℕ → ℕ → List ℕ
-lines_from line zero = []
-lines_from line (suc count) = line ∷ lines_from (line + 1) count
-
--- the line of the last of so many bytes from an address on
-abbrev pub last_line : Span → ℕ → ℕ → ℕ
-last_line span at count = line_at span (at + count - 1)
-
--- the lines of so many bytes from an address on, in rising order
-abbrev pub buffer_lines : Span → ℕ → ℕ → List ℕ
-buffer_lines span at count = lines_from (line_at span at) (last_line span at count + 1 - line_at span at)
-
--- the lines that a call touches after its instruction's own: those of the bytes that a write gathers
-abbrev pub lines_of_request : Span → Hart → Request → List ℕ
-lines_of_request span h (Write bytes) = buffer_lines span (register h 11) (length bytes)
-lines_of_request span h (Exit status) = []
-lines_of_request span h (Answer value) = []
-lines_of_request span h Unbuilt = []
-
-abbrev pub lines_of_call : Span → Hart → List ℕ
-lines_of_call span h = lines_of_request span h (request_of span h)
 
 -- the refusal, if that is the answer
 abbrev pub stop_of : {T : Type 0} → Result T Ended → Option NoSpace

@@ -1,0 +1,6 @@
+pub mod CallLines
+pub mod Called
+pub mod Calls
+pub mod Copies
+pub mod Flat
+pub mod Streams

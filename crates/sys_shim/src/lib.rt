@@ -1,0 +1,11 @@
+//! The calls that the guest makes of its environment, over any port, source and sink. Contracts see the guest as its
+//! registers, bytes and break, and say each call by its row: what it asks for, answers and leaves. The reference
+//! machine of instructions and calls over flat memory is defined here; no cache, page or file is known.
+#![tactic(auto)]
+
+mod brk;
+mod calls;
+mod copies;
+
+pub use brk::Brk;
+pub use calls::{Called, call};
