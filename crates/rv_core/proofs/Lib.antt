@@ -1,3 +1,4 @@
+pub mod CallLemmas
 pub mod Lines
 pub mod Products
 pub mod Stops

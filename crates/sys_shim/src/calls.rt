@@ -5,7 +5,7 @@ ghost use Rattle.hier_types.specs.Span.{Has, line_at};
 ghost use Rattle.rv_core.specs.Answers.{hart_of};
 ghost use Rattle.rv_core.specs.Hart.{sum};
 ghost use Rattle.sys_shim.specs.CallLines.{lines_of_request, pokes_of_request};
-ghost use Rattle.sys_shim.specs.Called.{DoesCall, StopIsJustified, guest, stop_of_call};
+ghost use Rattle.sys_shim.specs.Called.{DoesCall, StopIsJustified, stop_of_call, task};
 ghost use Rattle.sys_shim.specs.Calls.{Read, answered, break_at, closed, filled, has_all, read_of, request_of, write_of};
 ghost use Rattle.sys_shim.specs.Streams.{FaultsStay, IsUntouched, Stream, stream, streams};
 ghost use Rattle.sys_shim.specs.declared.brk.Brk.{Brk};
@@ -69,7 +69,7 @@ pub fn call<P: Port, I: Source, O: Sink>(
     out: &mut O,
     brk: &mut Brk,
 ) -> Called
-    ensures did { let old = hart_of regs.old (P.bytes port.old) in DoesCall (P.span port.old) (request_of (P.span port.old) brk.old old) (guest old brk.old) result (guest (hart_of regs.new (P.bytes port.new)) brk.new) (streams (stream (I.left input.old) (I.left input.new) (I.faults input.old) (I.faults input.new)) (stream (O.written out.old) (O.written out.new) (O.faults out.old) (O.faults out.new))) }
+    ensures did { let old = hart_of regs.old (P.bytes port.old) in DoesCall (P.span port.old) (request_of (P.span port.old) brk.old old) (task old brk.old) result (task (hart_of regs.new (P.bytes port.new)) brk.new) (streams (stream (I.left input.old) (I.left input.new) (I.faults input.old) (I.faults input.new)) (stream (O.written out.old) (O.written out.new) (O.faults out.old) (O.faults out.new))) }
     ensures span { P.span port.new ≡ P.span port.old }
     ensures stops { P.stops port.old ≤ P.stops port.new }
     ensures cause { StopIsJustified (P.stops port.old) (P.stops port.new) (P.crowded port.new) result }
@@ -141,7 +141,7 @@ fn has_bytes(geometry: &Geometry, at: u32, count: u32) -> bool
 /// before the input is asked: where the touch is refused, nothing is taken.
 fn read<P: Port, I: Source>(regs: &mut Regs, port: &mut P, input: &mut I) -> Called
     ensures did { (brk : Brk) (output : Stream) → IsUntouched output → let old = hart_of regs.old (P.bytes port.old) in
-        DoesCall (P.span port.old) (read_of (P.span port.old) old) (guest old brk) result (guest (hart_of regs.new (P.bytes port.new)) brk) (streams (stream (I.left input.old) (I.left input.new) (I.faults input.old) (I.faults input.new)) output) }
+        DoesCall (P.span port.old) (read_of (P.span port.old) old) (task old brk) result (task (hart_of regs.new (P.bytes port.new)) brk) (streams (stream (I.left input.old) (I.left input.new) (I.faults input.old) (I.faults input.new)) output) }
     ensures span { P.span port.new ≡ P.span port.old }
     ensures stops { P.stops port.old ≤ P.stops port.new }
     ensures cause { StopIsJustified (P.stops port.old) (P.stops port.new) (P.crowded port.new) result }
@@ -174,7 +174,7 @@ fn read_line<P: Port, I: Source>(
     requires has { Has (P.span port.old) at }
     requires within { at % 64 + count ≤ 64 }
     ensures did { (brk : Brk) (output : Stream) → IsUntouched output → let old = hart_of regs.old (P.bytes port.old) in
-        DoesCall (P.span port.old) (Read at count) (guest old brk) result (guest (hart_of regs.new (P.bytes port.new)) brk) (streams (stream (I.left input.old) (I.left input.new) (I.faults input.old) (I.faults input.new)) output) }
+        DoesCall (P.span port.old) (Read at count) (task old brk) result (task (hart_of regs.new (P.bytes port.new)) brk) (streams (stream (I.left input.old) (I.left input.new) (I.faults input.old) (I.faults input.new)) output) }
     ensures span { P.span port.new ≡ P.span port.old }
     ensures stops { P.stops port.old ≤ P.stops port.new }
     ensures cause { StopIsJustified (P.stops port.old) (P.stops port.new) (P.crowded port.new) result }
@@ -212,7 +212,7 @@ fn fill<P: Port>(regs: &mut Regs, port: &mut P, at: u32, got: &[u8]) -> Called
 /// the output is asked.
 fn write<P: Port, O: Sink>(regs: &mut Regs, port: &mut P, out: &mut O) -> Called
     ensures did { (brk : Brk) (input : Stream) → IsUntouched input → let old = hart_of regs.old (P.bytes port.old) in
-        DoesCall (P.span port.old) (write_of (P.span port.old) old) (guest old brk) result (guest (hart_of regs.new (P.bytes port.new)) brk) (streams input (stream (O.written out.old) (O.written out.new) (O.faults out.old) (O.faults out.new))) }
+        DoesCall (P.span port.old) (write_of (P.span port.old) old) (task old brk) result (task (hart_of regs.new (P.bytes port.new)) brk) (streams input (stream (O.written out.old) (O.written out.new) (O.faults out.old) (O.faults out.new))) }
     ensures span { P.span port.new ≡ P.span port.old }
     ensures stops { P.stops port.old ≤ P.stops port.new }
     ensures cause { StopIsJustified (P.stops port.old) (P.stops port.new) (P.crowded port.new) result }

@@ -1,0 +1,3 @@
+mod CallLemmas
+mod JoinLemmas
+pub mod RunLemmas

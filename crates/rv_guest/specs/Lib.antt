@@ -1,0 +1,4 @@
+pub mod Beat
+pub mod Lines
+pub mod Runs
+pub mod State

@@ -1,0 +1,19 @@
+// How a run ends.
+use hier_types::NoSpace;
+
+/// How a run ends.
+#[derive(Clone, Copy, Debug, PartialEq, Eq)]
+pub enum MachineEnd {
+    /// The guest ended itself with a status.
+    Exit(u32),
+    /// An instruction trapped, with the cause by the privileged manual's numbers ("mcause").
+    Trap { cause: u8, pc: u32, value: u32 },
+    /// As many instructions retired as the budget allows.
+    Budget,
+    /// A touch was refused: no free place holds a page that outgrew its own.
+    Space(NoSpace),
+    /// The input failed.
+    InFault,
+    /// The output failed.
+    OutFault,
+}

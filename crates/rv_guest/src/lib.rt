@@ -1,0 +1,10 @@
+//! The guest: a hart with its calls and its break, over any port. Contracts see its registers, bytes, break and count
+//! of instructions, and say each instruction and each run by the same instructions over flat memory. It never sees
+//! what the port, the source and the sink stand on, and knows no file.
+#![tactic(auto)]
+
+mod ends;
+mod guest;
+
+pub use ends::MachineEnd;
+pub use guest::Guest;
