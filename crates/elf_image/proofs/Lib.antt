@@ -1,2 +1,5 @@
+pub mod AcceptedLemmas
+pub mod HeaderLemmas
+pub mod LoadLemmas
 pub mod PageLemmas
-pub mod PlainLemmas
+pub mod RowLemmas

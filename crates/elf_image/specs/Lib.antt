@@ -1,4 +1,6 @@
+pub mod Accepted
 pub mod Fields
+pub mod Headers
 pub mod Image
-pub mod Load
-pub mod Plain
+pub mod Pages
+pub mod Rows

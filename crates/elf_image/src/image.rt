@@ -1,10 +1,10 @@
 // A file that was accepted, and the bytes that it puts into the memory.
-ghost use Rattle.std.specs.Prelude.{◌≡◌, ◌+◌, ◌<◌, ◌≤◌, ℕ, true, length, slice_index};
-ghost use Rattle.elf_image.specs.Image.{entry, page_of};
-ghost use Rattle.elf_image.specs.Load.{IsWithin, PutsAt, byte_of};
-ghost use Rattle.elf_image.specs.Plain.{file_size, is_plain, offset, start};
+ghost use Rattle.std.specs.Prelude.{◌≡◌, ◌+◌, ◌<◌, ◌≤◌, ℕ, length, slice_index};
+ghost use Rattle.elf_image.specs.Image.{IsSound, entry, end_of, page_of};
+ghost use Rattle.elf_image.specs.Pages.{IsWithin, PutsAt, byte_over};
 
 use crate::fields::word_at;
+use crate::headers::Header;
 use hier_types::{Geometry, PAGE_BYTES, PageNo};
 use std::marker::Model;
 
@@ -13,82 +13,75 @@ use std::marker::Model;
 pub struct Image {
     file: Vec<u8>,
     geometry: Geometry,
+    loads: Vec<Header>,
 }
 
 impl Model for Image {
-    ghost use Rattle.std.specs.Prelude.{◌≡◌, true};
-    ghost use Rattle.elf_image.specs.Image.{Loaded};
-    ghost use Rattle.elf_image.specs.Plain.{is_plain};
+    ghost use Rattle.elf_image.specs.Image.{Loaded, IsSound};
 
     ghost Value = { Loaded };
 
     ghost view = { λ a. record { span = a.geometry; file = a.file.items } };
 
-    ghost invariant = { λ a. is_plain a.geometry a.file.items ≡ true };
+    ghost invariant = { λ a. IsSound a.geometry a.file.items a.loads.items };
 }
 
 impl Image {
-    /// The image of a plain program.
-    pub(crate) fn of_plain(file: Vec<u8>, geometry: Geometry) -> Self
-        requires { is_plain geometry file.items ≡ true }
+    /// The image of a file that was accepted, with its loads.
+    pub(crate) fn new(file: Vec<u8>, geometry: Geometry, loads: Vec<Header>) -> Self
+        requires { IsSound geometry file.items loads.items }
         ensures { result ≡ record { span = geometry; file = file.items } }
     {
-        Image { file, geometry }
+        Image {
+            file,
+            geometry,
+            loads,
+        }
     }
 
-    /// The address of the first instruction.
-    #[tactic(auto, using(crate::proofs::PlainLemmas::plain_long))]
+    /// The address of the first instruction. It may lie anywhere.
     pub fn entry(&self) -> u32
         ensures { result ≡ entry self.now.file }
     {
         word_at(&self.file, 24)
     }
 
-    /// What the one program header loads.
-    #[tactic(auto, using(crate::proofs::PlainLemmas::plain_long, crate::proofs::PlainLemmas::plain_header, crate::proofs::PlainLemmas::plain_range))]
-    fn load(&self) -> Load
-        ensures offset { result.offset ≡ offset self.now.file }
-        ensures start { result.start ≡ start self.now.file }
-        ensures size { result.size ≡ file_size self.now.file }
-        ensures within { IsWithin result (length self.now.file) }
+    /// The address behind the last byte of all loads, or the first one of the span where no load has memory.
+    pub fn end(&self) -> u32
+        ensures { result ≡ end_of self.now.span self.now.file }
     {
-        let header = word_at(&self.file, 28) as usize;
-        Load {
-            offset: word_at(&self.file, header + 4),
-            start: word_at(&self.file, header + 8),
-            size: word_at(&self.file, header + 16),
+        let mut end = self.geometry.first();
+        for load in &self.loads {
+            if load.memory_size > 0 {
+                end = end.max(load.start + load.memory_size);
+            }
         }
+        end
     }
 
-    /// The bytes of a page at the start: the file's where the load covers the address, and zeros elsewhere.
+    /// The bytes of a page at the start: the file's where a load covers the address, and zeros elsewhere.
     pub fn page(&self, number: PageNo, into: &mut [u8; 4096])
         requires { number.0 < self.now.span.pages }
         ensures { into.new ≡ page_of self.now.span self.now.file number.0 }
     {
         let first = self.geometry.first() + number.0 * PAGE_BYTES;
         *into = [0; 4096];
-        put_load(&self.file, &self.load(), first, into);
+        for load in &self.loads {
+            put_load(&self.file, load, first, into);
+        }
     }
 }
 
-/// `size` bytes of a file from `offset` on stand in memory from the address `start` on.
-#[derive(Clone, Copy)]
-struct Load {
-    offset: u32,
-    start: u32,
-    size: u32,
-}
-
 /// Puts what a load has of the page at the address `first` over the page's bytes.
-fn put_load(file: &[u8], load: &Load, first: u32, into: &mut [u8; 4096])
-    requires { IsWithin load.now (length file.now) }
+fn put_load(file: &[u8], load: &Header, first: u32, into: &mut [u8; 4096])
+    requires { IsWithin (length file.now) load.now }
     ensures len { length into.new ≡ 4096 }
-    ensures each { (k : ℕ) → k < 4096 → slice_index into.new k ≡ byte_of load.now file.now into.old first k }
+    ensures each { (k : ℕ) → k < 4096 → slice_index into.new k ≡ byte_over file.now load.now (slice_index into.old k) (first + k) }
 {
     let start = load.start as usize;
     let first = first as usize;
     let from = start.max(first);
-    let to = (start + load.size as usize).min(first + PAGE_BYTES as usize);
+    let to = (start + load.file_size as usize).min(first + PAGE_BYTES as usize);
     if from < to {
         let offset = load.offset as usize + (from - start);
         put(into, from - first, &file[offset..offset + (to - from)]);

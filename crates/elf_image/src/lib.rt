@@ -3,11 +3,16 @@
 //! of the file.
 #![tactic(auto)]
 
+mod fault;
 mod fields;
+mod file_header;
+mod headers;
 mod image;
-mod plain;
+mod loads;
+mod read;
 #[cfg(test)]
 mod tests;
 
+pub use fault::{ImageFault, ImageKind};
 pub use image::Image;
-pub use plain::{PlainFault, read_plain};
+pub use read::read_image;
