@@ -7,8 +7,8 @@ use Rattle.std.specs.List.{list_any}
 use Rattle.hier_types.specs.declared.beats.Beat.{Beat}
 use Rattle.hier_types.specs.declared.beats.Beat.TheVariants.{Hart, Mover, Cleaner}
 use Rattle.hier_types.specs.Beats.{IsBeatWord, is_hart}
+use Rattle.sys_shim.specs.Streams.{Streams}
 use Rattle.hier_machine.specs.Beats.{Beats}
-use Rattle.hier_machine.specs.Called.{Output}
 use Rattle.hier_machine.specs.State.{State}
 use Rattle.hier_machine.specs.Words.{before_hart, gap}
 
@@ -62,7 +62,7 @@ gap_falls beats place beat has at other inside =
 
 -- how far a run still is from its end: the instructions that the budget leaves, and the beats before the hart's next
 abbrev pub work_left : State → ℕ → ℕ
-work_left state place = (state.budget - state.retired) * 129 + gap state.beats place
+work_left state place = (state.budget - state.guest.retired) * 129 + gap state.beats place
 
 gap-le : (beats : List Beat) (place : ℕ) → length beats ≤ 64 → gap beats place ≤ 128
 gap-le beats place short = omega (arith, before_hart-le (drop place beats ++ beats), length-append (drop place beats) beats, length-drop place beats)
@@ -72,10 +72,10 @@ idle_shrinks a b place beat word at other inside same =
     rw same (omega (arith, gap_falls a.beats place beat word.acts at other inside))
 
 -- each beat brings the end nearer
-pub work_shrinks : (beat : Beat) (a b : State) (out : Output) (place count : ℕ) → IsBeatWord a.beats → slice_get a.beats place ≡ Some beat → count ≡ length a.beats → place < count → a.retired < a.budget
+pub work_shrinks : (beat : Beat) (a b : State) (out : Streams) (place count : ℕ) → IsBeatWord a.beats → slice_get a.beats place ≡ Some beat → count ≡ length a.beats → place < count → a.guest.retired < a.budget
     → Beats beat a None b out → work_left b ((place + 1) % count) < work_left a place
 work_shrinks Hart a b out place count word at len inside lt h =
-    let short : length b.beats ≤ 64 = rw h.goes.beats word.short in
-    omega (arith, h.goes.budget, h.goes.retired, gap-le b.beats ((place + 1) % count) short)
+    let short : length b.beats ≤ 64 = rw h.stays.beats word.short in
+    omega (arith, h.stays.budget, h.does.retired, gap-le b.beats ((place + 1) % count) short)
 work_shrinks Mover a b out place count word at len inside lt h = rw len (idle_shrinks a b place Mover word at refl (omega arith) h.1)
 work_shrinks Cleaner a b out place count word at len inside lt h = rw len (idle_shrinks a b place Cleaner word at refl (omega arith) h.1)

@@ -1,7 +1,5 @@
 pub mod Beats
-pub mod Called
 pub mod Calm
-pub mod Gathered
 pub mod Held
 pub mod Loaded
 pub mod Runs

@@ -3,14 +3,13 @@
 //! It knows nothing of files, words and streams, and takes no memory once it is open.
 #![tactic(auto)]
 
-mod calls;
 mod ends;
-mod gather;
 mod held_line;
 mod loading;
 mod machine;
 #[cfg(test)]
 mod tests;
 
-pub use ends::{MachineEnd, OpenFault, Part};
+pub use ends::OpenFault;
 pub use machine::Machine;
+pub use rv_guest::MachineEnd;

@@ -29,7 +29,8 @@ returns c =
     ap flatten lines ∙ flatten-tabulate f n ∙ ap (tabulate f) size ∙ ap (λ (g : Span). tabulate (byte_at g file) (4096 * span.pages)) c.requires.same in
     let bytes : flatten (overlay c.new.result.below.lines c.new.result.kept c.new.result.bytes) ≡ memory_of span file = rw (c.new.ensures.below, c.new.ensures.kept) memory in
     let geometry = c.new.ensures.span in
-    let past = c.past.ensures.past in
-    let entry = c.entry-pc.ensures in
+    let entry = c.entry.ensures in
+    let end = c.end.ensures in
+    let guest = c.start-guest.ensures (memory_of span file) in
     let beats = c.in-Ok-clone.ensures in
     cc

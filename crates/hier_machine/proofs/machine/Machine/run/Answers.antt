@@ -1,7 +1,8 @@
 use Rattle.std.proofs.Common.{◌≡◌, ◌<◌, ◌≤◌, ◌∙◌, length, slice_get, Some, refl, sym, ap, subst, arith}
 use Rattle.hier_types.specs.Beats.{IsBeatWord}
+use Rattle.sys_shim.specs.Streams.{Streams, stream, streams}
+use Rattle.rv_guest.specs.State as guest
 use Rattle.hier_machine.specs.contracts.machine.Machine.{the_view}
-use Rattle.hier_machine.specs.Called.{Output}
 use Rattle.hier_machine.specs.State.{State}
 use Rattle.hier_machine.proofs.RunLemmas.{RunsSoFar, runs_budget, runs_end, runs_none, runs_on}
 use Rattle.hier_machine.proofs.WordLemmas.{some_beats, work_shrinks}
@@ -13,13 +14,11 @@ loop-self-init g c =
     let beats : c.self.inside.beats ≡ start.beats = ap (λ (s : State). s.beats) c.self.view_is in
     let word : IsBeatWord start.beats = subst IsBeatWord beats c.len-length.ensures.word in
     let len : c.len-length.result ≡ length start.beats = c.len-length.ensures.len ∙ ap length beats in
-    let out : Output = record { before = g.O.Sink.written c.args.out.now; after = g.O.Sink.written c.args.out.now; faults_before = g.O.Sink.faults c.args.out.now; faults_now = g.O.Sink.faults c.args.out.now } in
     record {
-      runs = runs_none start out refl (omega arith) c.requires.running c.requires.within;
+      runs = runs_none start _ (refl, refl) (record { input = omega arith; output = omega arith }) c.requires.running c.requires.within;
       inside = omega (arith, some_beats start.beats word);
       word = word;
       len = len;
-      input = refl;
     }
 
 pub returns-in-Some-clause-runs : goal.returns-in-Some-clause-runs
@@ -27,20 +26,23 @@ returns-in-Some-clause-runs g c =
     let start = c.args.self.now in
     let now = c.loop-self.self in
     let so = c.loop-self.invariant.runs in
-    let lt : now.retired < now.budget = rw (← c.self-in-loop-self.view_is) c.loop-self-test.true in
-    let first : Output = record { before = g.O.Sink.written c.args.out.now; after = g.O.Sink.written c.loop-self.out; faults_before = g.O.Sink.faults c.args.out.now; faults_now = g.O.Sink.faults c.loop-self.out } in
-    let second : Output = record { before = g.O.Sink.written c.loop-self.out; after = g.O.Sink.written c.beat.new.out; faults_before = g.O.Sink.faults c.loop-self.out; faults_now = g.O.Sink.faults c.beat.new.out } in
-    runs_end c.beat_at-beat.result start now c.beat.new.self c.in-Some.end first second so (record { bytes = refl; faults = refl }) lt c.in-Some.ensures.beats
+    let lt : now.guest.retired < now.budget = rw (← c.self-in-loop-self.view_is) c.loop-self-test.true in
+    let first = streams (stream (g.I.Source.left c.args.input.now) (g.I.Source.left c.loop-self.input) (g.I.Source.faults c.args.input.now) (g.I.Source.faults c.loop-self.input))
+    (stream (g.O.Sink.written c.args.out.now) (g.O.Sink.written c.loop-self.out) (g.O.Sink.faults c.args.out.now) (g.O.Sink.faults c.loop-self.out)) in
+    let second = streams (stream (g.I.Source.left c.loop-self.input) (g.I.Source.left c.beat.new.input) (g.I.Source.faults c.loop-self.input) (g.I.Source.faults c.beat.new.input))
+    (stream (g.O.Sink.written c.loop-self.out) (g.O.Sink.written c.beat.new.out) (g.O.Sink.faults c.loop-self.out) (g.O.Sink.faults c.beat.new.out)) in
+    runs_end c.beat_at-beat.result start now c.beat.new.self c.in-Some.end first second so (record { input = refl; output = refl; in_faults = refl; out_faults = refl }) lt c.in-Some.ensures.beats
 
 pub loop-self-smaller : goal.loop-self-smaller
 loop-self-smaller g c =
     let now = c.loop-self.self in
     let so = c.loop-self.invariant in
-    let beats = so.runs.beats in
-    let lt : now.retired < now.budget = rw (← c.self-in-loop-self.view_is) c.loop-self-test.true in
+    let beats = so.runs.stays.beats in
+    let lt : now.guest.retired < now.budget = rw (← c.self-in-loop-self.view_is) c.loop-self-test.true in
     let word : IsBeatWord now.beats = subst IsBeatWord (sym beats) so.word in
     let at : slice_get now.beats c.loop-self.place ≡ Some c.beat_at-beat.result = subst (λ (s : State). slice_get s.beats c.loop-self.place ≡ Some c.beat_at-beat.result) c.self-in-loop-self.view_is c.beat_at-beat.ensures in
-    let second : Output = record { before = g.O.Sink.written c.loop-self.out; after = g.O.Sink.written c.beat.new.out; faults_before = g.O.Sink.faults c.loop-self.out; faults_now = g.O.Sink.faults c.beat.new.out } in
+    let second = streams (stream (g.I.Source.left c.loop-self.input) (g.I.Source.left c.beat.new.input) (g.I.Source.faults c.loop-self.input) (g.I.Source.faults c.beat.new.input))
+    (stream (g.O.Sink.written c.loop-self.out) (g.O.Sink.written c.beat.new.out) (g.O.Sink.faults c.loop-self.out) (g.O.Sink.faults c.beat.new.out)) in
     work_shrinks c.beat_at-beat.result now c.beat.new.self second c.loop-self.place c.len-length.result word at (so.len ∙ ap length (sym beats)) so.inside lt c.in_default.ensures.beats
 
 pub loop-self-preserved : goal.loop-self-preserved
@@ -48,23 +50,25 @@ loop-self-preserved g c =
     let start = c.args.self.now in
     let now = c.loop-self.self in
     let so = c.loop-self.invariant in
-    let lt : now.retired < now.budget = rw (← c.self-in-loop-self.view_is) c.loop-self-test.true in
-    let first : Output = record { before = g.O.Sink.written c.args.out.now; after = g.O.Sink.written c.loop-self.out; faults_before = g.O.Sink.faults c.args.out.now; faults_now = g.O.Sink.faults c.loop-self.out } in
-    let second : Output = record { before = g.O.Sink.written c.loop-self.out; after = g.O.Sink.written c.beat.new.out; faults_before = g.O.Sink.faults c.loop-self.out; faults_now = g.O.Sink.faults c.beat.new.out } in
+    let lt : now.guest.retired < now.budget = rw (← c.self-in-loop-self.view_is) c.loop-self-test.true in
+    let first = streams (stream (g.I.Source.left c.args.input.now) (g.I.Source.left c.loop-self.input) (g.I.Source.faults c.args.input.now) (g.I.Source.faults c.loop-self.input))
+    (stream (g.O.Sink.written c.args.out.now) (g.O.Sink.written c.loop-self.out) (g.O.Sink.faults c.args.out.now) (g.O.Sink.faults c.loop-self.out)) in
+    let second = streams (stream (g.I.Source.left c.loop-self.input) (g.I.Source.left c.beat.new.input) (g.I.Source.faults c.loop-self.input) (g.I.Source.faults c.beat.new.input))
+    (stream (g.O.Sink.written c.loop-self.out) (g.O.Sink.written c.beat.new.out) (g.O.Sink.faults c.loop-self.out) (g.O.Sink.faults c.beat.new.out)) in
     record {
-      runs = runs_on c.beat_at-beat.result start now c.beat.new.self first second so.runs (record { bytes = refl; faults = refl }) lt c.beat.ensures.faults c.in_default.ensures.beats;
+      runs = runs_on c.beat_at-beat.result start now c.beat.new.self first second so.runs (record { input = refl; output = refl; in_faults = refl; out_faults = refl }) lt c.beat.ensures.faults c.in_default.ensures.beats;
       inside = omega (arith, so.inside);
       word = so.word;
       len = so.len;
-      input = c.beat.ensures.input ∙ so.input;
     }
 
 pub returns-clause-runs : goal.returns-clause-runs
 returns-clause-runs g c =
     let start = c.args.self.now in
     let now = the_view c.self-2.inside in
-    let out : Output = record { before = g.O.Sink.written c.args.out.now; after = g.O.Sink.written c.loop-self.out; faults_before = g.O.Sink.faults c.args.out.now; faults_now = g.O.Sink.faults c.loop-self.out } in
+    let out = streams (stream (g.I.Source.left c.args.input.now) (g.I.Source.left c.loop-self.input) (g.I.Source.faults c.args.input.now) (g.I.Source.faults c.loop-self.input))
+    (stream (g.O.Sink.written c.args.out.now) (g.O.Sink.written c.loop-self.out) (g.O.Sink.faults c.args.out.now) (g.O.Sink.faults c.loop-self.out)) in
     let so : RunsSoFar start now out = rw c.self-2.view_is c.loop-self.invariant.runs in
-    let used : c.loop-self.self.budget ≤ c.loop-self.self.retired = rw (← c.self-in-loop-self.view_is) c.loop-self-test.false in
-    let over : now.budget ≤ now.retired = subst (λ (s : State). s.budget ≤ s.retired) (sym c.self-2.view_is) used in
+    let used : c.loop-self.self.budget ≤ c.loop-self.self.guest.retired = rw (← c.self-in-loop-self.view_is) c.loop-self-test.false in
+    let over : now.budget ≤ now.guest.retired = subst (λ (s : State). s.budget ≤ s.guest.retired) (sym c.self-2.view_is) used in
     runs_budget start now out so over
