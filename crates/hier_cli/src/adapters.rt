@@ -1,8 +1,9 @@
 // The real file and streams. A source and a sink tell what their streams tell. The streams and files of the system
 // tell none of their bytes: what the system gives or takes no contract can say.
-ghost use Rattle.std.specs.Prelude.{◌≡◌, ◌<◌, ◌≤◌, [], None, IfOk, IfSome, IsErrOf, OnOk, OnErr, length, min, take, drop};
+ghost use Rattle.std.specs.Prelude.{◌≡◌, ◌<◌, ◌≤◌, [], None, IfOk, IfSome, IsErrOf, IsOk, OnOk, OnErr, length, min, take, drop};
 ghost use Rattle.std.specs.Io.KnownBytes.{Appends, IsAtEnd, Keeps, prepend_known};
-ghost use Rattle.hier_types.specs.Outside.{AppendsFront};
+ghost use Rattle.hier_types.specs.Causes.{HasCause};
+ghost use Rattle.hier_types.specs.Outside.{AppendsFront, Takes};
 
 use arrayvec::ArrayVec;
 use hier_types::{Failed, Shelf, ShelfFault, Sink, Source};
@@ -14,12 +15,11 @@ use std::{fs, io};
 /// The bytes that are asked of a file at a time.
 const CHUNK: usize = 65_536;
 
-/// The most bytes that a source holds back.
+/// The most bytes that a stream's source holds back.
 const ROOM: usize = 64;
 
-/// A stream that is read, such as standard input. Where the stream fails after a part, the part is held back for the
-/// next read. A read that finds no room to hold back all that it is to give fails, so up to 64 bytes are always within
-/// its reach.
+/// A stream that is read, such as standard input. What it gave before it failed is held back for the next read. A read
+/// into more than 64 bytes fails too where the stream has so many, since no more can be held back.
 #[derive(Drop)]
 pub struct StreamSource<R: Read> {
     stream: R,
@@ -48,7 +48,12 @@ impl<R: Read> Source for StreamSource<R> {
 
     ghost faults = { λ s. s.faults };
 
-    fn read(&mut self, into: &mut [u8]) -> Result<usize, Failed> {
+    fn read(&mut self, into: &mut [u8]) -> Result<usize, Failed>
+        ensures bound { IfOk result (λ count. count ≤ length into.new) }
+        ensures bytes { Takes (prepend_known self.old.held.items (R.remaining self.old.stream)) (prepend_known self.new.held.items (R.remaining self.new.stream)) result into.new }
+        ensures cause { HasCause self.old.faults self.new.faults result }
+        ensures held { length into.new ≤ length self.old.held.items → IsOk result }
+    {
         if let Err(failed) = hold(&mut self.held, &mut self.stream, into.len()) {
             self.faults = self.faults.saturating_add(1);
             return Err(failed);
@@ -57,10 +62,11 @@ impl<R: Read> Source for StreamSource<R> {
     }
 }
 
-/// Holds so many bytes, or all that the stream has left where they are fewer. None is lost where it fails.
+/// Takes bytes from the stream until so many are held, or it ends. None is lost where it fails.
 fn hold<R: Read>(held: &mut ArrayVec<u8, ROOM>, stream: &mut R, count: usize) -> Result<(), Failed>
     ensures kept { Keeps (prepend_known held.old.items (R.remaining stream.old)) (prepend_known held.new.items (R.remaining stream.new)) }
     ensures enough { OnOk result (length held.new.items < count → IsAtEnd (R.remaining stream.new)) }
+    ensures held { count ≤ length held.old.items → IsOk result }
 {
     while held.len() < count {
         let room = held.remaining_capacity().min(count - held.len());
