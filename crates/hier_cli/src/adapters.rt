@@ -1,9 +1,11 @@
-// The real file and streams. A sink tells what its stream tells. The streams and files of the system tell none of
-// their bytes: what the system gives or takes no contract can say.
-ghost use Rattle.std.specs.Prelude.{◌≡◌, ◌<◌, ◌≤◌, None, IfOk, IfSome, IsErrOf, OnOk, OnErr, length};
-ghost use Rattle.std.specs.Io.KnownBytes.{Appends};
-ghost use Rattle.hier_types.specs.Outside.{AppendsFront};
+// The real file and streams. A source and a sink tell what their streams tell. The streams and files of the system
+// tell none of their bytes: what the system gives or takes no contract can say.
+ghost use Rattle.std.specs.Prelude.{◌≡◌, ◌<◌, ◌≤◌, [], None, IfOk, IfSome, IsErrOf, IsOk, OnOk, OnErr, length, min, take, drop};
+ghost use Rattle.std.specs.Io.KnownBytes.{Appends, IsAtEnd, Keeps, prepend_known};
+ghost use Rattle.hier_types.specs.Causes.{HasCause};
+ghost use Rattle.hier_types.specs.Outside.{AppendsFront, Takes};
 
+use arrayvec::ArrayVec;
 use hier_types::{Failed, Shelf, ShelfFault, Sink, Source};
 use std::alloc::Global;
 use std::io::{Read, Write};
@@ -13,10 +15,16 @@ use std::{fs, io};
 /// The bytes that are asked of a file at a time.
 const CHUNK: usize = 65_536;
 
-/// A stream that is read, such as standard input.
+/// The most bytes that a stream's source holds back.
+const ROOM: usize = 64;
+
+/// A stream that is read, such as standard input. What it gave before it failed is held back for the next read. A read
+/// into more than 64 bytes fails too where the stream has so many, since no more can be held back.
 #[derive(Drop)]
 pub struct StreamSource<R: Read> {
     stream: R,
+    // Taken from the stream, and given to no read yet.
+    held: ArrayVec<u8, ROOM>,
     faults: u64,
 }
 
@@ -24,31 +32,76 @@ impl<R: Read> StreamSource<R> {
     /// A source that has not failed.
     pub fn new(stream: R) -> Self
         ensures stream { result.stream ≡ stream }
+        ensures held { result.held.items ≡ [] }
         ensures faults { result.faults ≡ 0 }
     {
-        StreamSource { stream, faults: 0 }
+        StreamSource {
+            stream,
+            held: ArrayVec::new(),
+            faults: 0,
+        }
     }
 }
 
 impl<R: Read> Source for StreamSource<R> {
-    ghost left = { λ _. None };
+    ghost left = { λ s. prepend_known s.held.items (R.remaining s.stream) };
 
     ghost faults = { λ s. s.faults };
 
-    fn read(&mut self, into: &mut [u8]) -> Result<usize, Failed> {
-        let mut count = 0;
-        while count < into.len() {
-            match self.stream.read(&mut into[count..]) {
-                Ok(0) => break,
-                Ok(more) => count += more,
-                Err(_) => {
-                    self.faults = self.faults.saturating_add(1);
-                    return Err(Failed);
+    fn read(&mut self, into: &mut [u8]) -> Result<usize, Failed>
+        ensures bound { IfOk result (λ count. count ≤ length into.new) }
+        ensures bytes { Takes (prepend_known self.old.held.items (R.remaining self.old.stream)) (prepend_known self.new.held.items (R.remaining self.new.stream)) result into.new }
+        ensures cause { HasCause self.old.faults self.new.faults result }
+        ensures held { length into.new ≤ length self.old.held.items → IsOk result }
+    {
+        if let Err(failed) = hold(&mut self.held, &mut self.stream, into.len()) {
+            self.faults = self.faults.saturating_add(1);
+            return Err(failed);
+        }
+        Ok(give(&mut self.held, into))
+    }
+}
+
+/// Takes bytes from the stream until so many are held, or it ends. None is lost where it fails.
+fn hold<R: Read>(held: &mut ArrayVec<u8, ROOM>, stream: &mut R, count: usize) -> Result<(), Failed>
+    ensures kept { Keeps (prepend_known held.old.items (R.remaining stream.old)) (prepend_known held.new.items (R.remaining stream.new)) }
+    ensures enough { OnOk result (length held.new.items < count → IsAtEnd (R.remaining stream.new)) }
+    ensures held { count ≤ length held.old.items → IsOk result }
+{
+    while held.len() < count {
+        let room = held.remaining_capacity().min(count - held.len());
+        if room == 0 {
+            return Err(Failed);
+        }
+        let mut chunk = [0; ROOM];
+        let part = &mut chunk[..room];
+        match stream.read(part) {
+            Ok(0) => return Ok(()),
+            Ok(more) => {
+                if held.try_extend_from_slice(&part[..more]).is_err() {
+                    unreachable!();
                 }
             }
+            Err(_) => return Err(Failed),
         }
-        Ok(count)
     }
+    Ok(())
+}
+
+/// Moves bytes that are held to the beginning of `into`, as many as it takes, and answers their number.
+fn give(held: &mut ArrayVec<u8, ROOM>, into: &mut [u8]) -> usize
+    ensures count { result ≡ min (length into.new) (length held.old.items) }
+    ensures given { take result into.new ≡ take result held.old.items }
+    ensures rest { held.new.items ≡ drop result held.old.items }
+{
+    let count = into.len().min(held.len());
+    into[..count].copy_from_slice(&held[..count]);
+    let mut rest = ArrayVec::new();
+    if rest.try_extend_from_slice(&held[count..]).is_err() {
+        unreachable!();
+    }
+    *held = rest;
+    count
 }
 
 /// A stream that is written, such as standard output. Each write is flushed.

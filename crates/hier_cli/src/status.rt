@@ -1,30 +1,13 @@
 // How the program ends, and with which code.
-ghost use Rattle.std.specs.Prelude.{◌≡◌};
-ghost use Rattle.hier_cli.specs.Top.{code_of, end_of_machine};
+ghost use Rattle.std.specs.Prelude.{◌≡◌, ◌≢◌};
+ghost use Rattle.hier_types.specs.declared.faults.NoSpace.{NoSpace};
+ghost use Rattle.rv_guest.specs.declared.ends.MachineEnd.TheVariants.{Space};
+ghost use Rattle.hier_cli.specs.Top.{IsEndOf, code_of};
 
-use hier_machine::{MachineEnd, Part};
+use hier_machine::MachineEnd;
+use run_report::End;
 
-/// How the program ends. `docs/FORMATS.md` has the code and the cause of each.
-#[derive(Clone, Copy, Debug, PartialEq, Eq)]
-pub enum End {
-    /// The guest ended itself with a status.
-    Exit { status: u32 },
-    /// The shelf failed, or has no file of that name.
-    FileFault,
-    /// The file has more than 67,108,864 bytes.
-    TooLong,
-    /// An instruction trapped.
-    Trap { cause: u8, pc: u32, value: u32 },
-    /// As many instructions retired as the budget allows.
-    Budget,
-    /// The output failed.
-    OutFault,
-    NoMemory,
-    /// The words, the file or the program need what is not built yet.
-    NotBuilt { part: Part },
-}
-
-/// The end and the exit code.
+/// The end and the exit code. `docs/FORMATS.md` has the code and the cause of each end.
 #[derive(Clone, Copy, Debug, PartialEq, Eq)]
 pub struct Status {
     pub end: End,
@@ -41,9 +24,12 @@ impl Status {
             End::Exit { status } => (status % 256) as u8,
             End::FileFault => 202,
             End::TooLong => 203,
+            End::BadImage { .. } => 204,
             End::Trap { .. } => 206,
             End::Budget => 207,
+            End::InFault => 210,
             End::OutFault => 211,
+            End::NoteFault => 212,
             End::NoMemory => 213,
             End::NotBuilt { .. } => 214,
         };
@@ -51,17 +37,17 @@ impl Status {
     }
 }
 
-impl End {
-    /// The end of a machine's run.
-    pub(crate) fn of_machine(end: MachineEnd) -> Self
-        ensures { result ≡ end_of_machine end }
-    {
-        match end {
-            MachineEnd::Exit(status) => End::Exit { status },
-            MachineEnd::Trap { cause, pc, value } => End::Trap { cause, pc, value },
-            MachineEnd::Budget => End::Budget,
-            MachineEnd::OutFault => End::OutFault,
-            MachineEnd::NotBuilt(part) => End::NotBuilt { part },
-        }
+/// The end of a machine's run, which was not refused a touch.
+pub(crate) fn end_of_machine(end: MachineEnd) -> End
+    requires { (refusal : NoSpace) → end ≢ Space refusal }
+    ensures { IsEndOf end result }
+{
+    match end {
+        MachineEnd::Exit(status) => End::Exit { status },
+        MachineEnd::Trap { cause, pc, value } => End::Trap { cause, pc, value },
+        MachineEnd::Budget => End::Budget,
+        MachineEnd::Space(_) => unreachable!(),
+        MachineEnd::InFault => End::InFault,
+        MachineEnd::OutFault => End::OutFault,
     }
 }

@@ -5,6 +5,7 @@ use hier_types::{BytesSink, BytesSource, Failed, ListShelf, NullSink, Sink, Sour
 use rv_asm::{demo_program, encode, write_elf};
 use rv_decode::{BranchOp, ImmOp, Instr, LoadOp, RegOp, ShiftOp, StoreOp};
 use std::alloc::Global;
+use std::io::{self, Read};
 use std::test::Fail;
 use std::thread::Threads;
 
@@ -98,6 +99,41 @@ fn end_of<R: Threads + Sync>(rt: &R, alloc: Global, program: &[u32]) -> Result<E
             .status
             .end,
     )
+}
+
+/// Gives at most two bytes at a time, and fails in its second call.
+#[derive(Drop)]
+struct Halting<R: Read> {
+    stream: R,
+    calls: u8,
+}
+
+impl<R: Read> Read for Halting<R> {
+    ghost remaining = { λ s. R.remaining s.stream };
+
+    fn read(&mut self, buf: &mut [u8]) -> io::Result<usize> {
+        self.calls = self.calls.saturating_add(1);
+        if self.calls == 2 {
+            return Err(io::Error::from(io::ErrorKind::Other));
+        }
+        let len = buf.len().min(2);
+        self.stream.read(&mut buf[..len])
+    }
+}
+
+#[test]
+fn failed_reads_lose_nothing(rt: HostRuntime) {
+    let (stream, calls) = (b"abcdefg".as_slice(), 0);
+    let mut source = StreamSource::new(Halting { stream, calls });
+    let mut five = [0; 5];
+    assert_eq!(rt; source.read(&mut five), Err(Failed));
+    assert_eq!(rt; source.read(&mut five), Ok(5));
+    assert_eq!(rt; five, *b"abcde");
+    assert_eq!(rt; source.read(&mut five), Ok(2));
+    let mut source = StreamSource::new([7; 66].as_slice());
+    assert_eq!(rt; source.read(&mut [0; 65]), Err(Failed));
+    assert_eq!(rt; source.read(&mut [0; 64]), Ok(64));
+    assert_eq!(rt; source.read(&mut [0; 65]), Ok(2));
 }
 
 #[test]

@@ -1,16 +1,33 @@
 // The program, over whatever stands outside of it.
 ghost use Rattle.std.specs.Prelude.{◌≡◌, option_map};
-ghost use Rattle.hier_cli.specs.Top.{EndsFile, HasEndCause, code_of, named_file};
+ghost use Rattle.sys_shim.specs.Streams.{stream, streams};
+ghost use Rattle.hier_cli.specs.Top.{EndsFile, Finishes, HasEndCause, code_of, named_file};
 
-use crate::status::{End, Status};
-use elf_image::{PlainFault, read_plain};
-use hier_machine::{Machine, Part};
+use crate::status::{Status, end_of_machine};
+use elf_image::{ImageKind, read_image};
+use hier_machine::Machine;
 use hier_types::{Settings, Shelf, ShelfFault, Sink, Source};
+use run_report::{End, Part, write_end};
 use std::alloc::Global;
 use std::thread::Threads;
 
 /// The most bytes that a file may have.
 const FILE_LIMIT: u64 = 67_108_864;
+
+/// How the work ended, and how many instructions retired where a machine was opened.
+struct Outcome {
+    end: End,
+    retired: Option<u64>,
+}
+
+impl Outcome {
+    /// An end before a machine was opened.
+    fn before_run(end: End) -> Self
+        ensures { result ≡ record { end = end; retired = None } }
+    {
+        Outcome { end, retired: None }
+    }
+}
 
 /// The name of the file that the words ask to run.
 fn file_to_run(words: &[String]) -> Option<&str>
@@ -23,52 +40,62 @@ fn file_to_run(words: &[String]) -> Option<&str>
 }
 
 /// Runs the program in a file's bytes.
-fn run_file<I: Source, O: Sink>(alloc: Global, file: Vec<u8>, input: &mut I, out: &mut O) -> End
-    ensures cause { EndsFile file.items (record { before = O.written out.old; after = O.written out.new; faults_before = O.faults out.old; faults_now = O.faults out.new }) result }
-    ensures input { input.new ≡ input.old }
+fn run_file<I: Source, O: Sink>(
+    alloc: Global,
+    file: Vec<u8>,
+    input: &mut I,
+    out: &mut O,
+) -> Outcome
+    ensures { EndsFile file.items (streams (stream (I.left input.old) (I.left input.new) (I.faults input.old) (I.faults input.new)) (stream (O.written out.old) (O.written out.new) (O.faults out.old) (O.faults out.new))) result.end result.retired }
 {
     let settings = Settings::default();
-    let image = match read_plain(file, settings.geometry) {
+    let image = match read_image(alloc, file, settings.geometry) {
         Ok(image) => image,
-        Err(PlainFault::NotPlain) => return End::NotBuilt { part: Part::File },
-        Err(PlainFault::NoMemory) => return End::NoMemory,
+        Err(fault) if fault.kind == ImageKind::NoMemory => {
+            return Outcome::before_run(End::NoMemory);
+        }
+        Err(fault) => return Outcome::before_run(End::BadImage { fault }),
     };
     let Ok(mut machine) = Machine::open(alloc, &settings, &image) else {
-        return End::NoMemory;
+        return Outcome::before_run(End::NoMemory);
     };
-    End::of_machine(machine.run(input, out))
+    let end = end_of_machine(machine.run(input, out));
+    Outcome {
+        end,
+        retired: Some(machine.retired()),
+    }
 }
 
-/// The end of the program that the words ask for.
-fn end_of_words<S: Shelf, I: Source, O: Sink>(
+/// Does what the words ask for, but for the note.
+fn run_words<S: Shelf, I: Source, O: Sink>(
     alloc: Global,
     words: &[String],
     shelf: &mut S,
     input: &mut I,
     out: &mut O,
-) -> End
-    ensures cause { HasEndCause words.now (record {
+) -> Outcome
+    ensures { HasEndCause words.now (record {
       files = S.files shelf.old;
       faults_before = S.faults shelf.old;
       faults_now = S.faults shelf.new;
-      output = record { before = O.written out.old; after = O.written out.new; faults_before = O.faults out.old; faults_now = O.faults out.new };
-    }) result }
-    ensures input { input.new ≡ input.old }
+      streams = (streams (stream (I.left input.old) (I.left input.new) (I.faults input.old) (I.faults input.new)) (stream (O.written out.old) (O.written out.new) (O.faults out.old) (O.faults out.new)));
+    }) result.end result.retired }
 {
     let Some(name) = file_to_run(words) else {
-        return End::NotBuilt { part: Part::Words };
+        return Outcome::before_run(End::NotBuilt { part: Part::Words });
     };
     match shelf.load(alloc, name, FILE_LIMIT) {
         Ok(file) => run_file(alloc, file, input, out),
-        Err(ShelfFault::Failed) => End::FileFault,
-        Err(ShelfFault::TooLong) => End::TooLong,
-        Err(ShelfFault::NoMemory) => End::NoMemory,
+        Err(ShelfFault::Failed) => Outcome::before_run(End::FileFault),
+        Err(ShelfFault::TooLong) => Outcome::before_run(End::TooLong),
+        Err(ShelfFault::NoMemory) => Outcome::before_run(End::NoMemory),
     }
 }
 
 /// Does what the words after the program's name ask for: `run FILE` runs the program in the file over the memory
-/// hierarchy. Output and end are those of the same instructions over flat memory, where the shelf and the output tell
-/// their bytes. Nothing is read from the input or written to the note.
+/// hierarchy. Output, end and what is taken of the input are those of the same instructions over flat memory, where
+/// the shelf, the input and the output tell their bytes. The end and the number of instructions that retired are
+/// written to the note.
 pub fn hiersim<R: Threads + Sync, S: Shelf, I: Source, O: Sink, N: Sink>(
     _rt: &R,
     alloc: Global,
@@ -76,17 +103,19 @@ pub fn hiersim<R: Threads + Sync, S: Shelf, I: Source, O: Sink, N: Sink>(
     shelf: &mut S,
     input: &mut I,
     out: &mut O,
-    _note: &mut N,
+    note: &mut N,
 ) -> Status
-    ensures cause { HasEndCause words.now (record {
+    ensures finishes { Finishes words.now (record {
       files = S.files shelf.old;
       faults_before = S.faults shelf.old;
       faults_now = S.faults shelf.new;
-      output = record { before = O.written out.old; after = O.written out.new; faults_before = O.faults out.old; faults_now = O.faults out.new };
-    }) result.end }
+      streams = (streams (stream (I.left input.old) (I.left input.new) (I.faults input.old) (I.faults input.new)) (stream (O.written out.old) (O.written out.new) (O.faults out.old) (O.faults out.new)));
+    }) (stream (N.written note.old) (N.written note.new) (N.faults note.old) (N.faults note.new)) result.end }
     ensures code { result.code ≡ code_of result.end }
-    ensures input { input.new ≡ input.old }
-    ensures note { _note.new ≡ _note.old }
 {
-    Status::of(end_of_words(alloc, words, shelf, input, out))
+    let outcome = run_words(alloc, words, shelf, input, out);
+    match write_end(&outcome.end, outcome.retired, note) {
+        Ok(()) => Status::of(outcome.end),
+        Err(_) => Status::of(End::NoteFault),
+    }
 }
