@@ -1,5 +1,5 @@
 use super::*;
-use elf_image::read_plain;
+use elf_image::read_image;
 use hier_types::{Beat, BeatWord, BytesSource, NullSink, PageNo, Settings};
 use std::alloc::Global;
 use std::test::Fail;
@@ -17,7 +17,7 @@ ghost use Rattle.std.specs.Prelude.{◌≡◌, ◌≤◌, ◌^◌, false, IfOk};
 /// The program, opened with a word of beats and a budget.
 fn counting(alloc: Global, beats: &[Beat], budget: u64) -> Result<Machine, Fail>
     requires { budget ≤ 10 ^ 15 }
-    ensures { IfOk result (λ machine. (machine.ended ≡ false) × (machine.retired ≡ 0) × (machine.span.pages ≡ 4096)) }
+    ensures { IfOk result (λ machine. (machine.ended ≡ false) × (machine.guest.retired ≡ 0) × (machine.span.pages ≡ 4096)) }
 {
     let mut file = Vec::new(alloc);
     file.extend_from_slice(&COUNTING)?;
@@ -26,9 +26,9 @@ fn counting(alloc: Global, beats: &[Beat], budget: u64) -> Result<Machine, Fail>
         beats: BeatWord::new(beats).ok_or("no word")?,
         ..Settings::default()
     };
-    let image = read_plain(file, settings.geometry)
+    let image = read_image(alloc, file, settings.geometry)
         .ok()
-        .ok_or("no plain program")?;
+        .ok_or("no program")?;
     Ok(
         Machine::open(alloc, &settings, &image)
             .ok()

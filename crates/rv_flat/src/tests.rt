@@ -2,7 +2,7 @@ ghost use Rattle.std.specs.Prelude.{◌≡◌, Some, IfOk, IsTrue};
 ghost use Rattle.hier_types.specs.Span.{Has, line_at};
 
 use super::*;
-use elf_image::read_plain;
+use elf_image::read_image;
 use hier_types::{Geometry, Port};
 use std::alloc::Global;
 use std::test::Fail;
@@ -44,7 +44,7 @@ fn an_image_stands_at_its_addresses(rt: HostRuntime) -> Result<(), Fail> {
     let alloc = rt.alloc();
     let mut file = Vec::new(alloc);
     file.extend_from_slice(&PROGRAM)?;
-    let image = read_plain(file, SPAN).ok().ok_or("no plain program")?;
+    let image = read_image(alloc, file, SPAN).ok().ok_or("no program")?;
     let mut memory = memory(alloc)?;
     memory.load(&image);
     for (at, there) in [

@@ -5,6 +5,8 @@
 
 mod ends;
 mod guest;
+#[cfg(test)]
+mod tests;
 
 pub use ends::MachineEnd;
 pub use guest::Guest;

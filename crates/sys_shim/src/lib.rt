@@ -6,6 +6,8 @@
 mod brk;
 mod calls;
 mod copies;
+#[cfg(test)]
+mod tests;
 
 pub use brk::Brk;
 pub use calls::{Called, call};

@@ -1,0 +1,2 @@
+//! placeholder
+#![tactic(auto)]
