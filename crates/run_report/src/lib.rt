@@ -1,2 +1,0 @@
-//! placeholder
-#![tactic(auto)]
