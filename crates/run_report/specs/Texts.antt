@@ -1,6 +1,5 @@
 -- The lines that a note has of a run: how it ended, and how many instructions retired.
 use Rattle.std.specs.Prelude.{ℕ, ◌+◌, ◌/◌, ◌%◌, ◌^◌, List, [], ◌∷◌, ◌++◌, map, nat_lt, if◌then◌else◌, Option, Some, None, codes, decimal}
-use Rattle.elf_image.specs.declared.fault.ImageFault.{ImageFault}
 use Rattle.elf_image.specs.declared.fault.ImageKind.{ImageKind}
 use Rattle.elf_image.specs.declared.fault.ImageKind.TheVariants as kind
 use Rattle.run_report.specs.declared.end.End.{End}

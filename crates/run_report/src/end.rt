@@ -12,13 +12,17 @@ pub enum Part {
 #[derive(Clone, Copy, Debug, PartialEq, Eq)]
 pub enum End {
     /// The guest exited with this status.
-    Exit { status: u32 },
+    Exit {
+        status: u32,
+    },
     /// The shelf failed, or has no file of the name.
     FileFault,
     /// The file has more bytes than the limit.
     TooLong,
     /// The file is no image for the guest's span.
-    BadImage { fault: ImageFault },
+    BadImage {
+        fault: ImageFault,
+    },
     /// An instruction trapped. Causes and values are those of `mcause` and `mtval` (RISC-V privileged manual).
     Trap {
         cause: u8,
@@ -37,5 +41,7 @@ pub enum End {
     /// Memory ran out.
     NoMemory,
     /// The words ask for what is not built yet.
-    NotBuilt { part: Part },
+    NotBuilt {
+        part: Part,
+    },
 }

@@ -14,7 +14,7 @@ use elf_image::ImageFault;
 use hier_types::{Failed, Sink};
 
 /// Writes how a run ended and, where a number is given, how many instructions retired. Each line is one write, and
-/// after one that failed there is no other.
+/// after one that failed there is no other: then a front of the text stands on the note.
 pub fn write_end<N: Sink>(end: &End, retired: Option<u64>, note: &mut N) -> Result<(), Failed>
     requires { end.now ≢ NoteFault }
     ensures ok { OnOk result (Appends (N.written note.old) (N.written note.new) (texts.note_text end.now retired)) }
@@ -51,7 +51,7 @@ fn retired_line(count: u64) -> TextLine
     line
 }
 
-/// Appends what is told of an end.
+/// Appends what is told of an end, at most 43 bytes.
 fn put_end(line: &mut TextLine, end: &End)
     requires own { end.now ≢ NoteFault }
     requires room { array_vec_len line.old.bytes + 43 ≤ 128 }

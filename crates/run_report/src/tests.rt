@@ -34,7 +34,12 @@ fn each_end_has_its_line(rt: HostRuntime) -> Result<(), Fail> {
     let alloc = rt.alloc();
     for (end, line) in [
         (End::Exit { status: 0 }, "end exit 0\n"),
-        (End::Exit { status: 4_294_967_295 }, "end exit 4294967295\n"),
+        (
+            End::Exit {
+                status: 4_294_967_295,
+            },
+            "end exit 4294967295\n",
+        ),
         (End::FileFault, "end file failed\n"),
         (End::TooLong, "end file too long\n"),
         (SHORT, "end bad image Short -\n"),
