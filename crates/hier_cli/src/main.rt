@@ -9,8 +9,8 @@ mod tests;
 mod top;
 
 use adapters::{FileShelf, StreamSink, StreamSource};
-pub use status::Status;
 use run_report::End;
+pub use status::Status;
 use std::process::ExitCode;
 use std::{env, io};
 pub use top::hiersim;

@@ -1,9 +1,13 @@
 use super::*;
 use crate::adapters::{StreamSink, StreamSource};
-use hier_machine::Part;
-use hier_types::{BytesSink, BytesSource, Failed, ListShelf, NullSink, Sink, Source};
+use elf_image::{ImageFault, ImageKind, read_image};
+use hier_machine::MachineEnd;
+use hier_types::{BytesSink, BytesSource, Failed, ListShelf, Settings, Sink, Source};
+use run_report::Part;
 use rv_asm::{demo_program, encode, write_elf};
 use rv_decode::{BranchOp, ImmOp, Instr, LoadOp, RegOp, ShiftOp, StoreOp};
+use rv_flat::FlatMemory;
+use rv_guest::Guest;
 use std::alloc::Global;
 use std::io::{self, Read};
 use std::test::Fail;
@@ -38,28 +42,80 @@ const WRITE_ABC_TWICE: [u32; 17] = [
 /// The output of the program that is generated from 7: the fold of its words, by the definition of its format.
 const FOLD_OF_SEVEN: [u8; 4] = [0x74, 0xd0, 0xb1, 0x55];
 
+/// A file in the shape of a linked one: four program headers, of which two are loads, and sections. It clears the zero
+/// tail of its data, makes a call that there is not, asks for the break, moves it by a page, writes `hello` and a line
+/// feed, and exits with 0, or with 1 where an answer is not the one that it awaits.
+const LINKED_HELLO: [u8; 308] = [
+    0x7f, 0x45, 0x4c, 0x46, 0x01, 0x01, 0x01, 0x00, 0x00, 0x00, 0x00, 0x00, 0x00, 0x00, 0x00, 0x00,
+    0x02, 0x00, 0xf3, 0x00, 0x01, 0x00, 0x00, 0x00, 0xb4, 0x00, 0x01, 0x00, 0x34, 0x00, 0x00, 0x00,
+    0x34, 0x01, 0x00, 0x00, 0x00, 0x00, 0x00, 0x00, 0x34, 0x00, 0x20, 0x00, 0x04, 0x00, 0x28, 0x00,
+    0x02, 0x00, 0x01, 0x00, 0x03, 0x00, 0x00, 0x70, 0x30, 0x01, 0x00, 0x00, 0x00, 0x00, 0x00, 0x00,
+    0x00, 0x00, 0x00, 0x00, 0x04, 0x00, 0x00, 0x00, 0x00, 0x00, 0x00, 0x00, 0x04, 0x00, 0x00, 0x00,
+    0x01, 0x00, 0x00, 0x00, 0x01, 0x00, 0x00, 0x00, 0x00, 0x00, 0x00, 0x00, 0x00, 0x00, 0x01, 0x00,
+    0x00, 0x00, 0x01, 0x00, 0x28, 0x01, 0x00, 0x00, 0x28, 0x01, 0x00, 0x00, 0x05, 0x00, 0x00, 0x00,
+    0x00, 0x10, 0x00, 0x00, 0x01, 0x00, 0x00, 0x00, 0x28, 0x01, 0x00, 0x00, 0x00, 0x18, 0x01, 0x00,
+    0x00, 0x18, 0x01, 0x00, 0x08, 0x00, 0x00, 0x00, 0x10, 0x00, 0x00, 0x00, 0x06, 0x00, 0x00, 0x00,
+    0x00, 0x10, 0x00, 0x00, 0x51, 0xe5, 0x74, 0x64, 0x00, 0x00, 0x00, 0x00, 0x00, 0x00, 0x00, 0x00,
+    0x00, 0x00, 0x00, 0x00, 0x00, 0x00, 0x00, 0x00, 0x00, 0x00, 0x00, 0x00, 0x06, 0x00, 0x00, 0x00,
+    0x10, 0x00, 0x00, 0x00, 0xb7, 0x22, 0x01, 0x00, 0x93, 0x82, 0x82, 0x80, 0x23, 0xa0, 0x02, 0x00,
+    0x23, 0xa2, 0x02, 0x00, 0x93, 0x08, 0x00, 0x05, 0x73, 0x00, 0x00, 0x00, 0x13, 0x03, 0xa0, 0xfd,
+    0x63, 0x16, 0x65, 0x04, 0x13, 0x05, 0x00, 0x00, 0x93, 0x08, 0x60, 0x0d, 0x73, 0x00, 0x00, 0x00,
+    0x13, 0x83, 0x82, 0x00, 0x63, 0x1c, 0x65, 0x02, 0xb7, 0x13, 0x00, 0x00, 0x33, 0x05, 0x75, 0x00,
+    0x33, 0x03, 0x73, 0x00, 0x73, 0x00, 0x00, 0x00, 0x63, 0x12, 0x65, 0x02, 0x13, 0x05, 0x10, 0x00,
+    0x93, 0x85, 0x82, 0xff, 0x13, 0x06, 0x60, 0x00, 0x93, 0x08, 0x00, 0x04, 0x73, 0x00, 0x00, 0x00,
+    0x13, 0x05, 0x00, 0x00, 0x93, 0x08, 0xd0, 0x05, 0x73, 0x00, 0x00, 0x00, 0x13, 0x05, 0x10, 0x00,
+    0x93, 0x08, 0xd0, 0x05, 0x73, 0x00, 0x00, 0x00, 0x68, 0x65, 0x6c, 0x6c, 0x6f, 0x0a, 0x00, 0x00,
+    0x41, 0x0f, 0x00, 0x00,
+];
+
+/// Reads at most 64 bytes, writes them, and exits with their number.
+const COPY_A_LINE: [u32; 10] = [
+    0x0002_05b7, // lui x11, 0x20
+    0x0400_0613, // addi x12, x0, 64
+    0x03f0_0893, // addi x17, x0, 63
+    ECALL,
+    0x0005_0613, // addi x12, x10, 0
+    0x0010_0513, // addi x10, x0, 1
+    0x0400_0893, // addi x17, x0, 64
+    ECALL,
+    0x05d0_0893, // addi x17, x0, 93
+    ECALL,
+];
+
+/// The calls of the input, the output and the note that fail.
+#[derive(Drop)]
+struct Failing {
+    input: Vec<u64>,
+    output: Vec<(u64, usize)>,
+    note: Vec<(u64, usize)>,
+}
+
+impl Failing {
+    fn nowhere(alloc: Global) -> Self {
+        Failing {
+            input: Vec::new(alloc),
+            output: Vec::new(alloc),
+            note: Vec::new(alloc),
+        }
+    }
+}
+
 /// What the program left, run on the words with the file `a`.
 #[derive(Drop)]
 struct Left {
     status: Status,
     input: Vec<u8>,
     output: Vec<u8>,
+    note: Vec<u8>,
 }
 
-fn copied(alloc: Global, bytes: &[u8]) -> Result<Vec<u8>, Fail> {
-    let mut copy = Vec::new(alloc);
-    copy.extend_from_slice(bytes)?;
-    Ok(copy)
-}
-
-/// Runs the program on words and a file named `a`, with an input of two bytes, and an output that fails where
-/// listed.
+/// Runs the program on words and a file named `a`, with an input of two bytes.
 fn run_on<R: Threads + Sync>(
     rt: &R,
     alloc: Global,
     words: &[&str],
     file: Vec<u8>,
-    fail: Vec<(u64, usize)>,
+    failing: Failing,
 ) -> Result<Left, Fail> {
     let mut owned = Vec::new(alloc);
     for word in words {
@@ -68,34 +124,42 @@ fn run_on<R: Threads + Sync>(
     let mut files = Vec::new(alloc);
     files.push((String::from_str(alloc, "a")?, file))?;
     let mut shelf = ListShelf::new(files, Vec::new(alloc));
-    let mut input = BytesSource::new(copied(alloc, &[1, 2])?, Vec::new(alloc));
-    let mut out = BytesSink::new(alloc, 64, fail).ok().ok_or("no memory")?;
+    let mut input = BytesSource::new(Vec::from_slice(alloc, &[1, 2])?, failing.input);
+    let mut out = BytesSink::new(alloc, 64, failing.output)
+        .ok()
+        .ok_or("no memory")?;
+    let mut note = BytesSink::new(alloc, 64, failing.note)
+        .ok()
+        .ok_or("no memory")?;
     let status = hiersim(
-        rt,
-        alloc,
-        &owned,
-        &mut shelf,
-        &mut input,
-        &mut out,
-        &mut NullSink,
+        rt, alloc, &owned, &mut shelf, &mut input, &mut out, &mut note,
     );
-    let output = copied(alloc, out.bytes())?;
-    let input = copied(alloc, input.left())?;
     Ok(Left {
         status,
-        input,
-        output,
+        input: Vec::from_slice(alloc, input.left())?,
+        output: Vec::from_slice(alloc, out.bytes())?,
+        note: Vec::from_slice(alloc, note.bytes())?,
     })
 }
 
-/// The end of `run a` on a program, whose output fails nowhere.
-fn end_of<R: Threads + Sync>(rt: &R, alloc: Global, program: &[u32]) -> Result<End, Fail> {
+/// `run a` on a program, with failures.
+fn run_program<R: Threads + Sync>(
+    rt: &R,
+    alloc: Global,
+    program: &[u32],
+    failing: Failing,
+) -> Result<Left, Fail> {
     if program.len() > 1000 {
         return Err("the program is too long".into());
     }
     let file = write_elf(alloc, program).ok().ok_or("no memory")?;
+    run_on(rt, alloc, &["run", "a"], file, failing)
+}
+
+/// The end of `run a` on a program, with no failure.
+fn end_of<R: Threads + Sync>(rt: &R, alloc: Global, program: &[u32]) -> Result<End, Fail> {
     Ok(
-        run_on(rt, alloc, &["run", "a"], file, Vec::new(alloc))?
+        run_program(rt, alloc, program, Failing::nowhere(alloc))?
             .status
             .end,
     )
@@ -154,32 +218,39 @@ fn streams_carry_bytes(rt: HostRuntime) {
 #[test]
 fn exits(rt: HostRuntime) -> Result<(), Fail> {
     let alloc = rt.alloc();
-    let file = write_elf(alloc, &EXIT_THREE).ok().ok_or("no memory")?;
-    let left = run_on(&rt, alloc, &["run", "a"], file, Vec::new(alloc))?;
+    let left = run_program(&rt, alloc, &EXIT_THREE, Failing::nowhere(alloc))?;
     assert_eq!(rt; left.status.end, End::Exit { status: 3 });
     assert_eq!(rt; left.status.code, 3);
     assert_eq!(rt; left.input.as_slice(), [1, 2].as_slice());
     assert_eq!(rt; left.output.as_slice(), [].as_slice());
+    assert_eq!(rt; left.note.as_slice(), b"end exit 3\nretired 3\n".as_slice());
     Ok(())
 }
 
 #[test]
 fn words_that_are_not_known(rt: HostRuntime) -> Result<(), Fail> {
     let alloc = rt.alloc();
-    let not_built = End::NotBuilt { part: Part::Words };
-    let cases: [(&[&str], End); 6] = [
+    let not_built = (
+        End::NotBuilt { part: Part::Words },
+        b"end not built words\n".as_slice(),
+    );
+    let cases: [(&[&str], (End, &[u8])); 6] = [
         (&[], not_built),
         (&["run"], not_built),
         (&["image", "a"], not_built),
         (&["run", "a", "a"], not_built),
         (&["RUN", "a"], not_built),
-        (&["run", "b"], End::FileFault),
+        (
+            &["run", "b"],
+            (End::FileFault, b"end file failed\n".as_slice()),
+        ),
     ];
-    for (words, end) in cases {
+    for (words, (end, note)) in cases {
         let file = write_elf(alloc, &EXIT_THREE).ok().ok_or("no memory")?;
-        let left = run_on(&rt, alloc, words, file, Vec::new(alloc))?;
+        let left = run_on(&rt, alloc, words, file, Failing::nowhere(alloc))?;
         assert_eq!(rt; left.status.end, end);
         assert_eq!(rt; left.output.as_slice(), [].as_slice());
+        assert_eq!(rt; left.note.as_slice(), note);
     }
     Ok(())
 }
@@ -187,58 +258,121 @@ fn words_that_are_not_known(rt: HostRuntime) -> Result<(), Fail> {
 #[test]
 fn files_that_are_no_programs(rt: HostRuntime) -> Result<(), Fail> {
     let alloc = rt.alloc();
-    let cases: [&[u8]; 4] = [&[], &[0x7f, b'E', b'L', b'F'], &[0; 51], &[0xa5; 200]];
-    for file in cases {
-        let left = run_on(
-            &rt,
-            alloc,
-            &["run", "a"],
-            copied(alloc, file)?,
-            Vec::new(alloc),
-        )?;
-        assert_eq!(rt; left.status.end, End::NotBuilt { part: Part::File });
-        assert_eq!(rt; left.status.code, 214);
+    let cases: [(&[u8], ImageKind); 4] = [
+        (&[], ImageKind::Short),
+        (&[0x7f, b'E', b'L', b'F'], ImageKind::Short),
+        (&[0; 51], ImageKind::Short),
+        (&[0xa5; 200], ImageKind::Magic),
+    ];
+    for (file, kind) in cases {
+        let file = Vec::from_slice(alloc, file)?;
+        let left = run_on(&rt, alloc, &["run", "a"], file, Failing::nowhere(alloc))?;
+        let header = None;
+        let fault = ImageFault { kind, header };
+        assert_eq!(rt; left.status.end, End::BadImage { fault });
+        assert_eq!(rt; left.status.code, 204);
+        assert_eq!(rt; left.output.as_slice(), [].as_slice());
     }
     Ok(())
 }
 
 #[test]
-fn writes_reach_the_output(rt: HostRuntime) -> Result<(), Fail> {
+fn a_linked_program_runs(rt: HostRuntime) -> Result<(), Fail> {
     let alloc = rt.alloc();
-    for (fail, end, code, output) in [
-        (None, End::Exit { status: 0 }, 0, b"abcabc".as_slice()),
-        (Some((1, 2)), End::OutFault, 211, b"abcab".as_slice()),
-    ] {
-        let file = write_elf(alloc, &WRITE_ABC_TWICE).ok().ok_or("no memory")?;
-        let mut faults = Vec::new(alloc);
-        for fault in fail {
-            faults.push(fault)?;
-        }
-        let left = run_on(&rt, alloc, &["run", "a"], file, faults)?;
-        assert_eq!(rt; left.status.end, end);
-        assert_eq!(rt; left.status.code, code);
-        assert_eq!(rt; left.output.as_slice(), output);
-    }
+    let file = Vec::from_slice(alloc, &LINKED_HELLO)?;
+    let left = run_on(&rt, alloc, &["run", "a"], file, Failing::nowhere(alloc))?;
+    assert_eq!(rt; left.status.end, End::Exit { status: 0 });
+    assert_eq!(rt; left.output.as_slice(), b"hello\n".as_slice());
+    assert_eq!(rt;
+        left.note.as_slice(),
+        b"end exit 0\nretired 26\n".as_slice()
+    );
+    Ok(())
+}
+
+#[test]
+fn input_reaches_the_output(rt: HostRuntime) -> Result<(), Fail> {
+    let alloc = rt.alloc();
+    let left = run_program(&rt, alloc, &COPY_A_LINE, Failing::nowhere(alloc))?;
+    assert_eq!(rt; left.status.end, End::Exit { status: 2 });
+    assert_eq!(rt; left.input.as_slice(), [].as_slice());
+    assert_eq!(rt; left.output.as_slice(), [1, 2].as_slice());
+    Ok(())
+}
+
+#[test]
+fn streams_that_fail(rt: HostRuntime) -> Result<(), Fail> {
+    let alloc = rt.alloc();
+    let mut failing = Failing::nowhere(alloc);
+    failing.input.push(0)?;
+    let left = run_program(&rt, alloc, &COPY_A_LINE, failing)?;
+    assert_eq!(rt; (left.status.end, left.status.code), (End::InFault, 210));
+    assert_eq!(rt; left.input.as_slice(), [1, 2].as_slice());
+    assert_eq!(rt;
+        left.note.as_slice(),
+        b"end input failed\nretired 3\n".as_slice()
+    );
+    let mut failing = Failing::nowhere(alloc);
+    failing.output.push((1, 2))?;
+    let left = run_program(&rt, alloc, &WRITE_ABC_TWICE, failing)?;
+    assert_eq!(rt; (left.status.end, left.status.code), (End::OutFault, 211));
+    assert_eq!(rt; left.output.as_slice(), b"abcab".as_slice());
+    assert_eq!(rt;
+        left.note.as_slice(),
+        b"end output failed\nretired 13\n".as_slice()
+    );
+    let mut failing = Failing::nowhere(alloc);
+    failing.note.push((0, 4))?;
+    let left = run_program(&rt, alloc, &WRITE_ABC_TWICE, failing)?;
+    assert_eq!(rt; (left.status.end, left.status.code), (End::NoteFault, 212));
+    assert_eq!(rt; left.output.as_slice(), b"abcabc".as_slice());
+    assert_eq!(rt; left.note.as_slice(), b"end ".as_slice());
     Ok(())
 }
 
 #[test]
 fn ends_by_the_program(rt: HostRuntime) -> Result<(), Fail> {
     let alloc = rt.alloc();
-    let cases: [(&[u32], End); 3] = [
-        (
-            &[0x0060_006f],
-            End::Trap {
-                cause: 0,
-                pc: 0x1_0000,
-                value: 0x1_0006,
-            },
-        ),
-        (&[0x0500_0893, ECALL], End::NotBuilt { part: Part::Call }),
+    let (cause, pc, value) = (0, 0x1_0000, 0x1_0006);
+    let cases: [(&[u32], End); 2] = [
+        (&[0x0060_006f], End::Trap { cause, pc, value }),
         (&[0x05e0_0893, ECALL], End::Exit { status: 0 }),
     ];
     for (program, end) in cases {
         assert_eq!(rt; end_of(&rt, alloc, program)?, end);
+    }
+    Ok(())
+}
+
+/// The end of a program over flat memory with as much input, and what it writes.
+fn run_flat(alloc: Global, program: &[u32]) -> Result<(MachineEnd, Vec<u8>), Fail> {
+    if program.len() > 1000 {
+        return Err("the program is too long".into());
+    }
+    let file = write_elf(alloc, program).ok().ok_or("no memory")?;
+    let geometry = Settings::default().geometry;
+    let image = read_image(alloc, file, geometry).ok().ok_or("no program")?;
+    let mut memory = FlatMemory::new(alloc, geometry).ok().ok_or("no memory")?;
+    memory.load(&image);
+    let mut input = BytesSource::new(Vec::from_slice(alloc, &[1, 2])?, Vec::new(alloc));
+    let mut out = BytesSink::new(alloc, 64, Vec::new(alloc))
+        .ok()
+        .ok_or("no memory")?;
+    let mut guest = Guest::start(image.entry(), image.end(), &geometry);
+    let end = guest.run(&mut memory, &mut input, &mut out, 1000);
+    Ok((end, Vec::from_slice(alloc, out.bytes())?))
+}
+
+#[test]
+fn flat_memory_gives_the_same(rt: HostRuntime) -> Result<(), Fail> {
+    let alloc = rt.alloc();
+    let programs: [(&[u32], u32); 3] = [(&EXIT_THREE, 3), (&COPY_A_LINE, 2), (&WRITE_ABC_TWICE, 0)];
+    for (program, status) in programs {
+        let (end, output) = run_flat(alloc, program)?;
+        assert_eq!(rt; end, MachineEnd::Exit(status));
+        let left = run_program(&rt, alloc, program, Failing::nowhere(alloc))?;
+        assert_eq!(rt; left.status.end, End::Exit { status });
+        assert_eq!(rt; left.output.as_slice(), output.as_slice());
     }
     Ok(())
 }
@@ -248,9 +382,13 @@ fn ends_by_the_program(rt: HostRuntime) -> Result<(), Fail> {
 fn the_generated_program(rt: HostRuntime) -> Result<(), Fail> {
     let alloc = rt.alloc();
     let file = demo_program(alloc, 7).ok().ok_or("no memory")?;
-    let left = run_on(&rt, alloc, &["run", "a"], file, Vec::new(alloc))?;
+    let left = run_on(&rt, alloc, &["run", "a"], file, Failing::nowhere(alloc))?;
     assert_eq!(rt; left.status.end, End::Exit { status: 0 });
     assert_eq!(rt; left.output.as_slice(), FOLD_OF_SEVEN.as_slice());
+    assert_eq!(rt;
+        left.note.as_slice(),
+        b"end exit 0\nretired 851987\n".as_slice()
+    );
     Ok(())
 }
 

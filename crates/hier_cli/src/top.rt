@@ -15,6 +15,7 @@ use std::thread::Threads;
 const FILE_LIMIT: u64 = 67_108_864;
 
 /// How the work ended, and how many instructions retired where a machine was opened.
+#[derive(Drop)]
 struct Outcome {
     end: End,
     retired: Option<u64>,
@@ -40,12 +41,7 @@ fn file_to_run(words: &[String]) -> Option<&str>
 }
 
 /// Runs the program in a file's bytes.
-fn run_file<I: Source, O: Sink>(
-    alloc: Global,
-    file: Vec<u8>,
-    input: &mut I,
-    out: &mut O,
-) -> Outcome
+fn run_file<I: Source, O: Sink>(alloc: Global, file: Vec<u8>, input: &mut I, out: &mut O) -> Outcome
     ensures { EndsFile file.items (streams (stream (I.left input.old) (I.left input.new) (I.faults input.old) (I.faults input.new)) (stream (O.written out.old) (O.written out.new) (O.faults out.old) (O.faults out.new))) result.end result.retired }
 {
     let settings = Settings::default();
