@@ -33,7 +33,7 @@ byte_of file at load = slice_index file (load.offset + (at - load.start))
 unfoldable pub loaded_byte : List ℕ → List Header → ℕ → ℕ
 loaded_byte file loads at = unwrap_or (option_map (byte_of file at) (find (covers at) loads)) 0
 
--- each load's bytes stand at its addresses: no two loads cover the same one
+-- whichever load covers an address, its byte stands there
 abbrev pub HoldsLoads : List ℕ → Type 0
 HoldsLoads file = (load : Header) (at : ℕ) → Contains (loads_of file) load → covers at load ≡ true → loaded_byte file (loads_of file) at ≡ byte_of file at load
 
