@@ -1,12 +1,12 @@
 -- What it says of a file that rows hold or do not hold.
-use Rattle.std.proofs.Common.{◌≡◌, ◌∙◌, ◌≢◌, ◌+◌, ◌<◌, ◌≤◌, ◌++◌, ℕ, Bool, true, false, List, length, Option, Some, None, ap, sym, refl, arith}
+use Rattle.std.proofs.Common.{◌≡◌, ◌∙◌, ◌≤◌, ◌++◌, ℕ, false, List, length, Option, Some, None, ap, sym, refl, arith}
 use Rattle.std.specs.Option.{option_or}
 use Rattle.hier_types.specs.Span.{Span}
 use Rattle.elf_image.specs.declared.fault.ImageFault.{ImageFault}
 use Rattle.elf_image.specs.declared.headers.Header.{Header}
 use Rattle.elf_image.specs.declared.fault.ImageKind.TheVariants.{Short, Magic, Class, Order, Version, Kind, Machine, Compressed, HeaderTable, Interpreter, NoLoad, ManyLoads, FileRange, SizeOrder, AddressRange, Overlap}
 use Rattle.elf_image.specs.Accepted.{fault_of, file_header_rows, has_bad_table, header_rows, load_rows}
-use Rattle.elf_image.specs.Headers.{HasHeaders, header_count, loads_of, table_end}
+use Rattle.elf_image.specs.Headers.{HasHeaders, loads_of}
 use Rattle.elf_image.specs.Rows.{first_row}
 use Rattle.elf_image.proofs.RowLemmas.{OfFile, at_header-of_file, first_row-append, first_row-of_file, no_row, no_rows-of_file, not_whole, whole-of_file}
 

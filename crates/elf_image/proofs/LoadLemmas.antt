@@ -1,16 +1,17 @@
 -- What holds of the loads of a file that is accepted.
-use Rattle.std.proofs.Common.{◌≡◌, ◌∙◌, ◌+◌, ◌<◌, ◌≤◌, ◌&&◌, ℕ, zero, suc, max, min, Bool, true, false, List, [], ◌∷◌, length, get_or, take, filter, find, Option, Some, None, AllPairs, cond, nat_lt, refl, sym, ap, subst, arith}
+use Rattle.std.proofs.Common.{◌≡◌, ◌∙◌, ◌<◌, ◌≤◌, ◌&&◌, ℕ, zero, suc, Bool, true, false, List, [], ◌∷◌, length, get_or, take, find, Option, Some, None, AllPairs, Contains, cond, drop, option_map, unwrap_or, nat_lt, refl, sym, ap, arith}
 use Rattle.std.specs.List.{list_any}
+use Rattle.std.specs.Option.{option_or}
+use Rattle.std.proofs.Math.Seq.{drop-cons}
 use Rattle.std.proofs.lemmas.Bool.{false≢true, lt-ltb}
-use Rattle.std.proofs.lemmas.List.{get_or-take, length-take}
-use Rattle.std.proofs.lemmas.List.Folds.{list_any_at}
+use Rattle.std.proofs.lemmas.List.{get_or-take, length-take, take-append-drop}
+use Rattle.std.proofs.lemmas.List.Folds.{find-append, list_any_at}
 use Rattle.std.proofs.lemmas.List.Kept.{AllPairs-filter}
-use Rattle.hier_types.specs.Span.{Span, first, past}
-use Rattle.hier_types.specs.Tabulate.{tabulate}
+use Rattle.hier_types.specs.Span.{Span, past}
 use Rattle.hier_types.proofs.TableLemmas.{get_or-tabulate, length-tabulate}
 use Rattle.elf_image.specs.Accepted.{end_address, exceeds_memory, fault_of, leaves_span, load_rows, overlaps_earlier, passes_file, shares_byte}
 use Rattle.elf_image.specs.Headers.{header_count, header_of, headers_of, is_load, loads_of}
-use Rattle.elf_image.specs.Image.{covers}
+use Rattle.elf_image.specs.Image.{HoldsLoads, byte_of, covers, loaded_byte}
 use Rattle.elf_image.specs.Pages.{IsWithin}
 use Rattle.elf_image.specs.Rows.{first_row}
 use Rattle.elf_image.specs.declared.headers.Header.{Header}
@@ -124,3 +125,18 @@ covers_alone span file at k d accepted inside here =
     rw same (of_test (covers at (get_or loads i d)) (λ there.
     false≢true (sym (loads_apart span file i k d accepted below inside)
     ∙ both_cover at (get_or loads i d) (get_or loads k d) (load_sized span file i d accepted (omega arith)) (load_sized span file k d accepted inside) there here))))
+
+load_found : (span : Span) (file : List ℕ) (at : ℕ) (load : Header) → fault_of span file ≡ None → Contains (loads_of file) load → covers at load ≡ true → find (covers at) (loads_of file) ≡ Some load
+load_found span file at load accepted here covering =
+    let loads = loads_of file in
+    let k = here.0 in
+    let none = covers_alone span file at k load accepted here.1 (ap (covers at) here.2 ∙ covering) in
+    let behind : drop k loads ≡ load ∷ drop (suc k) loads = drop-cons loads k load here.1 ∙ ap (λ (x : Header). x ∷ drop (suc k) loads) here.2 in
+    ap (find (covers at)) (sym (take-append-drop k loads)) ∙ find-append (covers at) (take k loads) (drop k loads)
+    ∙ ap (λ found. option_or found (find (covers at) (drop k loads))) none ∙ ap (find (covers at)) behind
+    ∙ ap (λ b. cond b (Some load) (find (covers at) (drop (suc k) loads))) covering
+
+pub holds_loads : (span : Span) (file : List ℕ) → fault_of span file ≡ None → HoldsLoads file
+unfolding loaded_byte
+holds_loads span file accepted = λ load at here covering.
+    ap (λ found. unwrap_or (option_map (byte_of file at) found) 0) (load_found span file at load accepted here covering)

@@ -17,7 +17,7 @@ has_other_version file = not (slice_index file 6 == 1) || not (word file 20 == 1
 abbrev pub has_bad_table : List ℕ → Bool
 has_bad_table file = not (header_count file == 0) && (not (half file 42 == 32) || nat_lt (length file) (table_end file))
 
--- of the file header
+-- rows of the file header: e_type stands at 16, e_machine at 18, e_version at 20, e_flags at 36, e_phentsize at 42
 unfoldable pub file_header_rows : List ℕ → List (Option ImageFault)
 file_header_rows file =
     whole Short (nat_lt (length file) 52)
@@ -31,7 +31,7 @@ file_header_rows file =
     ∷ whole HeaderTable (has_bad_table file)
     ∷ []
 
--- of the list of program headers
+-- rows of the list of program headers; type 3 is PT_INTERP
 unfoldable pub header_rows : List ℕ → List (Option ImageFault)
 header_rows file =
     at_header Interpreter (find (λ (header : Header). header.kind == 3) (headers_of file))
@@ -63,7 +63,7 @@ shares_byte load other = nat_lt (max load.start other.start) (min (end_address l
 abbrev pub overlaps_earlier : List Header → Header → Bool
 overlaps_earlier loads load = list_any (λ (other : Header). nat_lt other.number load.number && shares_byte other load) loads
 
--- of the loads
+-- rows of the loads
 unfoldable pub load_rows : Span → ℕ → List Header → List (Option ImageFault)
 load_rows span bytes loads =
     at_header FileRange (find (passes_file bytes) loads)

@@ -1,5 +1,5 @@
 -- What an image puts into the guest's memory.
-use Rattle.std.specs.Prelude.{◌≡◌, ℕ, ◌+◌, ◌-◌, ◌*◌, ◌&&◌, Bool, max, nat_le, nat_lt, List, None, filter, find, fold, map, option_map, slice_index, unwrap_or}
+use Rattle.std.specs.Prelude.{◌≡◌, ℕ, true, Contains, ◌+◌, ◌-◌, ◌*◌, ◌&&◌, Bool, max, nat_le, nat_lt, List, None, filter, find, fold, map, option_map, slice_index, unwrap_or}
 use Rattle.hier_types.specs.Span.{Span, first}
 use Rattle.hier_types.specs.Tabulate.{tabulate}
 use Rattle.elf_image.specs.Fields.{word}
@@ -32,6 +32,10 @@ byte_of file at load = slice_index file (load.offset + (at - load.start))
 -- the byte at an address: the file's of the load that covers it, else 0
 unfoldable pub loaded_byte : List ℕ → List Header → ℕ → ℕ
 loaded_byte file loads at = unwrap_or (option_map (byte_of file at) (find (covers at) loads)) 0
+
+-- whichever load covers an address, its byte stands there
+abbrev pub HoldsLoads : List ℕ → Type 0
+HoldsLoads file = (load : Header) (at : ℕ) → Contains (loads_of file) load → covers at load ≡ true → loaded_byte file (loads_of file) at ≡ byte_of file at load
 
 -- the byte at a place of the span at the start
 abbrev pub byte_at : Span → List ℕ → ℕ → ℕ

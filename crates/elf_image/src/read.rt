@@ -2,6 +2,7 @@
 ghost use Rattle.std.specs.Prelude.{◌≡◌, ◌≢◌, ◌==◌, ◌≤◌, Some, None, IfOk, IfErr, length};
 ghost use Rattle.elf_image.specs.Accepted.{fault_of, header_rows};
 ghost use Rattle.elf_image.specs.Headers.{HasHeaders};
+ghost use Rattle.elf_image.specs.Image.{HoldsLoads};
 ghost use Rattle.elf_image.specs.Rows.{Answers, first_row};
 ghost use Rattle.elf_image.specs.declared.fault.ImageKind.TheVariants.{NoMemory};
 
@@ -28,6 +29,7 @@ const NO_MEMORY: ImageFault = ImageFault {
 /// ignored (System V gABI, "Object files"). Memory may run out whether or not the file is accepted.
 pub fn read_image(alloc: Global, bytes: Vec<u8>, geometry: Geometry) -> Result<Image, ImageFault>
     ensures ok { IfOk result (λ image. (fault_of geometry bytes.items ≡ None) × (image ≡ record { span = geometry; file = bytes.items })) }
+    ensures loads { IfOk result (λ _. HoldsLoads bytes.items) }
     ensures fault { IfErr result (λ fault. fault.kind ≢ NoMemory → fault_of geometry bytes.items ≡ Some fault) }
     ensures no_memory { IfErr result (λ fault. fault.kind ≡ NoMemory → fault.header ≡ None) }
 {

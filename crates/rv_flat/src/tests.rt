@@ -9,7 +9,7 @@ use std::test::Fail;
 
 const SPAN: Geometry = Geometry { base: 16, pages: 2 };
 
-/// A plain program of four bytes, which stand at 00010FFE, with an entry at 00010000.
+/// A program of four bytes, which stand at 00010FFE, with an entry at 00010000.
 const PROGRAM: [u8; 88] = [
     0x7f, b'E', b'L', b'F', 1, 1, 1, 0, 0, 0, 0, 0, 0, 0, 0, 0, 2, 0, 243, 0, 1, 0, 0, 0, 0, 0, 1,
     0, 52, 0, 0, 0, 0, 0, 0, 0, 0, 0, 0, 0, 52, 0, 32, 0, 1, 0, 0, 0, 0, 0, 0, 0, 1, 0, 0, 0, 84,
@@ -44,7 +44,7 @@ fn an_image_stands_at_its_addresses(rt: HostRuntime) -> Result<(), Fail> {
     let alloc = rt.alloc();
     let mut file = Vec::new(alloc);
     file.extend_from_slice(&PROGRAM)?;
-    let image = read_image(alloc, file, SPAN).ok().ok_or("no program")?;
+    let image = read_image(alloc, file, SPAN).ok().ok_or("refused")?;
     let mut memory = memory(alloc)?;
     memory.load(&image);
     for (at, there) in [

@@ -1,4 +1,4 @@
-use Rattle.std.proofs.Common.{◌≡◌, ◌∙◌, ◌++◌, [], ◌∷◌, filter, length, ap, sym, arith, length-append}
+use Rattle.std.proofs.Common.{◌≡◌, ◌∙◌, [], ◌∷◌, filter, length, ap, sym, arith, length-append}
 use Rattle.hier_types.specs.Tabulate.{tabulate}
 use Rattle.hier_types.proofs.TableLemmas.{tabulate-none}
 use Rattle.elf_image.specs.Headers.{header_of, is_load, loads_of}

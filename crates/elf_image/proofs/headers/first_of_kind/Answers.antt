@@ -1,4 +1,4 @@
-use Rattle.std.proofs.Common.{◌≡◌, ◌∙◌, ◌==◌, find, Some, ap, sym, arith}
+use Rattle.std.proofs.Common.{◌∙◌, ◌==◌, find, Some, ap, sym, arith}
 use Rattle.hier_types.proofs.TableLemmas.{tabulate-none}
 use Rattle.elf_image.specs.Headers.{header_of}
 use Rattle.elf_image.specs.declared.headers.Header.{Header}

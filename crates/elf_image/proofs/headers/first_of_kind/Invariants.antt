@@ -1,6 +1,6 @@
-use Rattle.std.proofs.Common.{◌≡◌, ◌==◌, None, find, filter, length}
+use Rattle.std.proofs.Common.{◌≡◌, ◌==◌, None, find}
 use Rattle.hier_types.specs.Tabulate.{tabulate}
-use Rattle.elf_image.specs.Headers.{header_of, is_load}
+use Rattle.elf_image.specs.Headers.{header_of}
 use Rattle.elf_image.specs.declared.headers.Header.{Header}
 use Rattle.elf_image.proofs.headers.first_of_kind.Given as goal
 

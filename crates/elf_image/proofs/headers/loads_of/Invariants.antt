@@ -1,7 +1,6 @@
-use Rattle.std.proofs.Common.{◌≡◌, None, find, filter, length}
+use Rattle.std.proofs.Common.{◌≡◌, filter}
 use Rattle.hier_types.specs.Tabulate.{tabulate}
 use Rattle.elf_image.specs.Headers.{header_of, is_load}
-use Rattle.elf_image.specs.declared.headers.Header.{Header}
 use Rattle.elf_image.proofs.headers.loads_of.Given as goal
 
 abbrev pub invariant-loop-number : goal.invariant-loop-number

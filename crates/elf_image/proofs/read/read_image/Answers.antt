@@ -1,9 +1,8 @@
-use Rattle.std.proofs.Common.{◌≡◌, ◌∙◌, ◌++◌, List, ℕ, length, Some, None, ap, rules}
+use Rattle.std.proofs.Common.{◌≡◌, ◌∙◌, length, ap, rules}
 use Rattle.std.proofs.lemmas.Result.{err_from_is_err_and}
-use Rattle.elf_image.specs.Accepted.{fault_of, file_header_rows, header_rows, load_rows}
 use Rattle.elf_image.specs.Headers.{loads_of}
-use Rattle.elf_image.specs.Rows.{first_row}
 use Rattle.elf_image.proofs.AcceptedLemmas.{fault-file_header, fault-headers, fault-loads, file_header-of_file, has_file_header, has_headers, headers-of_file, loads-of_file}
+use Rattle.elf_image.proofs.LoadLemmas.{holds_loads}
 use Rattle.elf_image.proofs.read.read_image.Goals as goal
 
 pub returns-in_err-check_file_header-clause-fault : goal.returns-in_err-check_file_header-clause-fault
@@ -72,3 +71,6 @@ new-requires c =
     let size : c.len.result ≡ length c.args.bytes.items = search rules in
     let no_load = rw (size, c.deref-4.ensures.value ∙ loads) at c.in_ok-check_loads.ensures in
     record { accepted = fault-loads c.args.geometry c.args.bytes.items none no_header ∙ no_load; loads_are = loads }
+
+pub returns-clause-loads : goal.returns-clause-loads
+returns-clause-loads c = holds_loads c.args.geometry c.args.bytes.items (search rules)

@@ -1,4 +1,4 @@
-use Rattle.std.proofs.Common.{◌≡◌, ◌∙◌, ◌+◌, ◌*◌, ◌≤◌, ◌<◌, ℕ, length, find, None, true, get_or, take, ap, sym, refl, arith}
+use Rattle.std.proofs.Common.{◌≡◌, ◌∙◌, ◌+◌, ◌*◌, length, find, None, true, get_or, take, ap, sym, refl, arith}
 use Rattle.std.proofs.lemmas.List.{get_or-replicate, take_more}
 use Rattle.std.proofs.Math.Seq.{take-length}
 use Rattle.hier_types.specs.Span.{first}
