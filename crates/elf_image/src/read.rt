@@ -1,5 +1,5 @@
 // From a file's bytes to its image.
-ghost use Rattle.std.specs.Prelude.{◌≡◌, ◌≢◌, ◌==◌, ◌≤◌, Some, None, IfOk, IfErr, length};
+ghost use Rattle.std.specs.Prelude.{◌≡◌, ◌≢◌, ◌≤◌, Some, None, IfOk, IfErr, length};
 ghost use Rattle.elf_image.specs.Accepted.{fault_of, header_rows};
 ghost use Rattle.elf_image.specs.Headers.{HasHeaders};
 ghost use Rattle.elf_image.specs.Image.{HoldsLoads};
