@@ -9,8 +9,8 @@ use Rattle.run_report.proofs.note.write_end.Goals as goal
 pub returns-in-Err-clause-err : goal.returns-in-Err-clause-err
 returns-in-Err-clause-err g c =
     let end = c.args.end.now in
-    let front : AppendsFront (g.N.Sink.written c.args.note.now) (g.N.Sink.written c.write.new.self) (end_line end) =
-    search rules in
+    let written = g.N.Sink.written in
+    let front : AppendsFront (written c.args.note.now) (written c.write.new.self) (end_line end) = search rules in
     front_of_end_line _ _ end c.args.retired front
 
 pub returns-in-Some-clause-err : goal.returns-in-Some-clause-err
