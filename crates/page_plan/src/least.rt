@@ -1,6 +1,6 @@
 ghost use Rattle.std.specs.Prelude.{◌≡◌, ℕ, ◌+◌, ◌≤◌, IsTrue, ◌↔◌};
 ghost use Rattle.page_plan.specs.Layout.{IsTarget, stored_sizes};
-ghost use Rattle.page_plan.specs.PagePlan.{IsZeroPage, IsLeastBelow, IsPlan, IsInRange, plan_of};
+ghost use Rattle.page_plan.specs.PagePlan.{IsZeroPage, IsLeastBelow, IsPlan, IsPlanOfSizes, IsInRange, plan_of};
 
 use crate::layout::{TARGETS, exceptions, order_for};
 use hier_types::{Codec, Line};
@@ -80,10 +80,18 @@ pub fn plan(codec: Codec, page: &[Line; 64]) -> PagePlan
     if is_zero(page) {
         return PagePlan::Zero;
     }
-    let sizes = sizes_of(codec, page);
+    plan_of_sizes(&sizes_of(codec, page))
+}
+
+/// The plan of a page that is not zero, by what each of its lines takes in a slot: None where it has no stored size. It
+/// asks no codec, so a memory that keeps these sizes plans a page anew at the price of one line's size.
+pub fn plan_of_sizes(sizes: &[Option<u8>; 64]) -> PagePlan
+    ensures least { IsLeastBelow 32 sizes.now result }
+    ensures plan { IsPlanOfSizes sizes.now result }
+{
     let mut plan = PagePlan::Raw;
     for target in TARGETS {
-        plan = better(&sizes, plan, target);
+        plan = better(sizes, plan, target);
     }
     plan
 }
