@@ -9,4 +9,4 @@ mod least;
 mod tests;
 
 pub use layout::TARGETS;
-pub use least::{PagePlan, plan, plan_of_sizes};
+pub use least::{PagePlan, plan, plan_with, sizes_of};

@@ -6,8 +6,8 @@
 mod blocks;
 mod desc;
 mod homes;
+mod page_lines;
 mod pages;
-mod planning;
 #[cfg(test)]
 mod tests;
 

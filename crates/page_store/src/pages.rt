@@ -5,9 +5,10 @@ ghost use Rattle.hier_types.specs.Lines.{AreLines, zero_line};
 ghost use Rattle.page_store.specs.declared.desc.Desc.TheVariants as desc;
 
 use crate::blocks::Blocks;
-use crate::planning::{lines_in, page_with, plan_with, put_page, sizes_of};
+use crate::page_lines::{lines_in, page_with, put_page};
 use hier_types::{Codec, Geometry, Layer, Line, LineNo, NoMemory, NoSpace, PAGE_LINES, PageCounts, PageNo};
 use line_codec::stored_size;
+use page_plan::{plan_with, sizes_of};
 use std::alloc::Global;
 use std::marker::Model;
 

@@ -1,6 +1,7 @@
-ghost use Rattle.std.specs.Prelude.{◌≡◌, ◌≤◌, ◌*◌, length};
+ghost use Rattle.std.specs.Prelude.{◌≡◌, ◌≤◌, ◌*◌, length, IfOk};
 use super::*;
-use hier_types::{Codec, Geometry, Layer, Line, LineNo, NoSpace, PageNo};
+use hier_types::{Codec, Geometry, Layer, Line, LineNo, NoMemory, NoSpace, PageNo};
+use std::alloc::Global;
 
 // Words that rise by the same step each.
 fn rising(first: u32, step: u32) -> Line {
@@ -27,24 +28,23 @@ fn plain() -> Line {
     rising(0x0123_4567, 0x0123_4567)
 }
 
-fn store(rt: &HostRuntime, pages: u32, frames: u32) -> Pages
+fn store(alloc: Global, pages: u32, frames: u32) -> Result<Pages, NoMemory>
     requires some_pages { 1 ≤ pages }
     requires most_pages { pages ≤ 64 }
     requires some_frames { 1 ≤ frames }
     requires most_frames { frames ≤ 64 }
-    ensures { length result.lines ≡ 64 * pages }
+    ensures { IfOk result (λ made. length made.lines ≡ 64 * pages) }
 {
     let geometry = Geometry { base: 16, pages };
-    match Pages::new(rt.alloc(), geometry, frames, Codec::Bdi) {
-        Ok(made) => made,
-        Err(_) => panic!(rt; "no memory"),
-    }
+    Pages::new(alloc, geometry, frames, Codec::Bdi)
 }
 
 /// A line in each of eight pages fills the frame with blocks of 512 bytes.
 #[test]
 fn nine_pages_in_one_frame(rt: HostRuntime) {
-    let mut pages = store(&rt, 9, 1);
+    let Ok(mut pages) = store(rt.alloc(), 9, 1) else {
+        panic!(rt; "no memory");
+    };
     for page in 0..8u32 {
         assert!(rt; pages.write(LineNo(64 * page), &shortened()).is_ok());
     }
