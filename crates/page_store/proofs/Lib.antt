@@ -1,3 +1,7 @@
 pub mod HomeLemmas
 pub mod BlockLemmas
 pub mod PageLemmas
+pub mod ListLemmas
+pub mod CountLemmas
+pub mod CrowdLemmas
+pub mod StoreLemmas

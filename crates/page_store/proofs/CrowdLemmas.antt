@@ -1,0 +1,194 @@
+-- A crowded store is tight, and tight stores have fewer frames than pages.
+use Rattle.std.proofs.Common.{◌≡◌, ◌≢◌, ◌<◌, ◌≤◌, ◌+◌, ◌-◌, ◌*◌, ◌/◌, ◌%◌, ◌^◌, ◌⊎◌, ◌∙◌, leb, ltb, ◌&&◌, ◌||◌, ℕ, zero, suc, true, false, Option, Some, None, option_map, List, [], ◌∷◌, IfSome, length, set, map, slice_get, refl, sym, ap, subst, inl, inr, arith}
+use Rattle.std.specs.List.{sum_by}
+use Rattle.std.proofs.lemmas.Bool.{cases_eq, cases_lt, cases_Bool, and_from, le-leb, lt-ltb, both_ways, or_left, or_right}
+use Rattle.std.proofs.lemmas.List.{length-map, length-set}
+use Rattle.std.proofs.lemmas.List.Sums.{sum_by-cons}
+use Rattle.std.proofs.lemmas.Option.{slice_get-map, slice_get-get_or, slice_get_within, none-some, same_Some}
+use Rattle.std.proofs.Math.Nat.{mul-le-mul_left}
+use Rattle.buddy_frames.specs.Units.{Place, place_at, past, IsPlace, AreApart}
+use Rattle.buddy_frames.proofs.PlaceLemmas.{four, some_units}
+use Rattle.hier_types.specs.Tabulate.{tabulate}
+use Rattle.hier_types.proofs.TableLemmas.{length-tabulate, get_or-tabulate}
+use Rattle.hier_types.specs.declared.faults.NoSpace.{NoSpace}
+use Rattle.hier_types.specs.declared.settings.Codec.{Codec}
+use Rattle.page_plan.specs.declared.least.PagePlan.{PagePlan}
+use Rattle.page_plan.specs.declared.least.PagePlan.TheVariants as plan
+use Rattle.page_plan.specs.PagePlan.{plan_of}
+use Rattle.page_store.specs.declared.desc.Desc.{Desc}
+use Rattle.page_store.specs.declared.desc.Desc.TheVariants.{Zero, Packed, Raw}
+use Rattle.page_store.specs.Pages.{page_of, pages_of, plans_of}
+use Rattle.page_store.specs.Homes.{block_of, block_at, IsAtPlan, IsFreeFor, IsIn}
+use Rattle.page_store.specs.Store.{Store, IsSound}
+use Rattle.page_store.specs.Crowds.{Crowded, Tight, share, share_of_order}
+use Rattle.page_store.proofs.BlockLemmas.{block_at-same, block_at-other, block_at-get}
+use Rattle.page_store.proofs.ListLemmas.{get-set_same, get-set_other, sum_by-map, sum_by-but_one}
+use Rattle.page_store.proofs.CountLemmas.{holds, any_holds, weight, AreRuns, all_met}
+
+-- the plan of the page of a number
+pub plans_of-get : (codec : Codec) (lines : List (List ℕ)) (page : ℕ) → page < length lines / 64 → slice_get (plans_of codec lines) page ≡ Some (plan_of codec (page_of lines page))
+plans_of-get codec lines page lt =
+    let inside : page < length (pages_of lines) = omega (arith, length-tabulate (page_of lines) (length lines / 64)) in
+    slice_get-map (plan_of codec) (pages_of lines) page
+    ∙ ap (λ o. option_map (plan_of codec) o) (slice_get-get_or (pages_of lines) page [] inside ∙ ap Some (get_or-tabulate [] (page_of lines) (length lines / 64) page lt))
+
+pub length-plans_of : (codec : Codec) (lines : List (List ℕ)) → length (plans_of codec lines) ≡ length lines / 64
+length-plans_of codec lines = length-map (pages_of lines) (plan_of codec) ∙ length-tabulate (page_of lines) (length lines / 64)
+
+-- a block at its plan weighs the plan's share
+weight_share : (k : ℕ) (p : PagePlan) (desc : Desc) → IsAtPlan p desc → weight k (block_of desc) ≡ share k p
+weight_share k plan.Zero Zero at = refl
+weight_share k plan.Zero (Packed block target) at = absurd at
+weight_share k plan.Zero (Raw block) at = absurd at
+weight_share k (plan.Packed order target exceptions) Zero at = absurd at
+weight_share k (plan.Packed order target exceptions) (Packed block t) at = ap (share_of_order k) at.0
+weight_share k (plan.Packed order target exceptions) (Raw block) at = absurd at
+weight_share k plan.Raw Zero at = absurd at
+weight_share k plan.Raw (Packed block target) at = absurd at
+weight_share k plan.Raw (Raw block) at = ap (share_of_order k) at
+
+weights_shares : (k : ℕ) (plans : List PagePlan) (ds : List Desc) → length plans ≡ length ds
+    → ((i : ℕ) (p : PagePlan) (desc : Desc) → slice_get plans i ≡ Some p → slice_get ds i ≡ Some desc → IsAtPlan p desc)
+    → sum_by (weight k) (map block_of ds) ≡ sum_by (share k) plans
+weights_shares k [] [] same at = refl
+weights_shares k [] (d ∷ ds) same at = absurd (omega arith)
+weights_shares k (p ∷ plans) [] same at = absurd (omega arith)
+weights_shares k (p ∷ plans) (d ∷ ds) same at =
+    let first : weight k (block_of d) ≡ share k p = weight_share k p d (at 0 p d refl refl) in
+    let rest : sum_by (weight k) (map block_of ds) ≡ sum_by (share k) plans = weights_shares k plans ds (omega arith) (λ i q desc e f. at (suc i) q desc e f) in
+    rw (sum_by-cons (weight k) (block_of d) (map block_of ds), sum_by-cons (share k) p plans) (omega arith)
+
+-- the blocks are runs
+runs : (ds : List Desc) → ((i : ℕ) (block : Place) → block_at ds i ≡ Some block → (block.order ≤ 3) × (block.unit % 2 ^ block.order ≡ 0)) → AreRuns (map block_of ds)
+runs [] each = tt
+runs (d ∷ ds) each = (one (block_of d) (λ block e. each 0 block e), runs ds (λ i block e. each (suc i) block e))
+  where
+    one : (b : Option Place) → ((block : Place) → b ≡ Some block → (block.order ≤ 3) × (block.unit % 2 ^ block.order ≡ 0)) → IfSome b (λ p. (p.order ≤ 3) × (p.unit % 2 ^ p.order ≡ 0))
+    one None each = tt
+    one (Some block) each = each block refl
+
+-- a unit that no block holds is not one of the block of a page
+held_by : (ds : List Desc) (page : ℕ) (block : Place) (v : ℕ) → block_at ds page ≡ Some block → IsIn v block → any_holds (map block_of ds) v ≡ true
+held_by [] page block v e inside = cc
+held_by (d ∷ ds) zero block v e inside =
+    or_left (holds (block_of d) v) (any_holds (map block_of ds) v)
+    (subst (λ b. holds b v ≡ true) (sym e) (and_from (leb block.unit v) (ltb v (past block)) (le-leb block.unit v inside.0) (lt-ltb v (past block) inside.1)))
+held_by (d ∷ ds) (suc page) block v e inside = or_right (holds (block_of d) v) (any_holds (map block_of ds) v) (held_by ds page block v e inside)
+
+-- two runs without a common unit are apart
+apart_from : (p q : Place) → 1 ≤ 2 ^ p.order → 1 ≤ 2 ^ q.order → ((v : ℕ) → IsIn v p → IsIn v q → ⊥) → AreApart p q
+apart_from p q some_p some_q none =
+    elim (cases_lt p.unit q.unit) [
+      | inl before ↦ elim (cases_lt q.unit (past p)) [
+        | inl inside ↦ absurd (none q.unit (omega arith, inside) (omega arith, omega arith))
+        | inr past_p ↦ inl past_p
+      ]
+      | inr behind ↦ elim (cases_lt p.unit (past q)) [
+        | inl inside ↦ absurd (none p.unit (omega arith, omega arith) (behind, inside))
+        | inr past_q ↦ inr past_q
+      ]
+    ]
+
+-- place number j of an order
+place_number : (used : List ℕ) (k j : ℕ) → k ≤ 3 → j < length used * 2 ^ (3 - k) → IsPlace used (place_at k (j * 2 ^ k))
+place_number used k j known lt =
+    four (λ k. j < length used * 2 ^ (3 - k) → IsPlace used (place_at k (j * 2 ^ k))) k known
+    (λ l. record { known = omega arith; aligned = omega arith; within = omega arith })
+    (λ l. record { known = omega arith; aligned = omega arith; within = omega arith })
+    (λ l. record { known = omega arith; aligned = omega arith; within = omega arith })
+    (λ l. record { known = omega arith; aligned = omega arith; within = omega arith })
+    lt
+
+-- what the block of a page weighs
+abbrev weight_of : ℕ → Desc → ℕ
+weight_of k desc = weight k (block_of desc)
+
+-- a block of order 3 meets as many places of an order as a frame has
+weight_most : (k : ℕ) (b : Option Place) → k ≤ 3 → ((block : Place) → b ≡ Some block → block.order ≤ 3) → weight k b ≤ 2 ^ (3 - k)
+weight_most k None known small = omega arith
+weight_most k (Some block) known small =
+    let least : block.order ≤ 3 = small block refl in
+    four (λ k. share_of_order k block.order ≤ 2 ^ (3 - k)) k known
+    (four (λ o. share_of_order 0 o ≤ 8) block.order least (omega arith) (omega arith) (omega arith) (omega arith))
+    (four (λ o. share_of_order 1 o ≤ 4) block.order least (omega arith) (omega arith) (omega arith) (omega arith))
+    (four (λ o. share_of_order 2 o ≤ 2) block.order least (omega arith) (omega arith) (omega arith) (omega arith))
+    (four (λ o. share_of_order 3 o ≤ 1) block.order least (omega arith) (omega arith) (omega arith) (omega arith))
+
+module _ (s : Store) (sound : IsSound s) where
+  known_order : (page : ℕ) (block : Place) → block_at s.descriptors page ≡ Some block → block.order ≤ 3
+  known_order page block e = (sound.blocks_are.live page block e).lies.known
+
+  pages_counted : length s.lines / 64 ≡ length s.descriptors
+  pages_counted = let whole : length s.lines ≡ 64 * length s.descriptors = sound.whole in omega arith
+
+  module _ (page : ℕ) (within : page < length s.descriptors) where
+    -- a block of the pages, that one counted as zero
+    other_block : (i : ℕ) (block : Place) → block_at (set s.descriptors page Zero) i ≡ Some block → (i ≢ page) × (block_at s.descriptors i ≡ Some block)
+    other_block i block e = elim (cases_eq i page) [
+      | inl same ↦ absurd (none-some block (sym (block_at-same s.descriptors page Zero within) ∙ ap (block_at (set s.descriptors page Zero)) (sym same) ∙ e))
+      | inr ne ↦ (ne, sym (block_at-other s.descriptors page i Zero ne) ∙ e)
+    ]
+
+    other_runs : AreRuns (map block_of (set s.descriptors page Zero))
+    other_runs = runs (set s.descriptors page Zero) (λ i block e.
+        let lies = (sound.blocks_are.live i block (other_block i block e).1).lies in
+        (lies.known, lies.aligned))
+
+    -- every other page at its plan, the shares are what the blocks weigh
+    shares_are : (k : ℕ) → ((i : ℕ) (desc : Desc) → i ≢ page → slice_get s.descriptors i ≡ Some desc → IsAtPlan (plan_of s.codec (page_of s.lines i)) desc)
+        → sum_by (weight k) (map block_of (set s.descriptors page Zero)) ≡ sum_by (share k) (set (plans_of s.codec s.lines) page plan.Zero)
+    shares_are k at_plan =
+        let plans = plans_of s.codec s.lines in
+        let counted : length plans ≡ length s.descriptors = length-plans_of s.codec s.lines ∙ pages_counted in
+        weights_shares k (set plans page plan.Zero) (set s.descriptors page Zero) (length-set plans page plan.Zero ∙ counted ∙ sym (length-set s.descriptors page Zero))
+        (λ i p desc e f. elim (cases_eq i page) [
+          | inl same ↦
+              let zero_plan : plan.Zero ≡ p = same_Some plan.Zero p (sym (get-set_same plans page plan.Zero (omega arith)) ∙ ap (slice_get (set plans page plan.Zero)) (sym same) ∙ e) in
+              let zero_page : Zero ≡ desc = same_Some Zero desc (sym (get-set_same s.descriptors page Zero within) ∙ ap (slice_get (set s.descriptors page Zero)) (sym same) ∙ f) in
+              subst (λ q. IsAtPlan q desc) zero_plan (subst (λ d. IsAtPlan plan.Zero d) zero_page tt)
+          | inr ne ↦
+              let there : slice_get s.descriptors i ≡ Some desc = sym (get-set_other s.descriptors page i Zero ne) ∙ f in
+              let lt : i < length s.lines / 64 = omega (arith, slice_get_within s.descriptors i desc there, pages_counted) in
+              let its_plan : plan_of s.codec (page_of s.lines i) ≡ p =
+              same_Some (plan_of s.codec (page_of s.lines i)) p (sym (plans_of-get s.codec s.lines i lt) ∙ sym (get-set_other plans page i plan.Zero ne) ∙ e) in
+              subst (λ q. IsAtPlan q desc) its_plan (at_plan i desc ne there)
+        ])
+
+    -- a place whose units no other block has is free for the page
+    free_place : (k j : ℕ) → k ≤ 3 → j < length s.used * 2 ^ (3 - k)
+        → ((v : ℕ) → j * 2 ^ k ≤ v → v < j * 2 ^ k + 2 ^ k → any_holds (map block_of (set s.descriptors page Zero)) v ≡ false)
+        → IsFreeFor s.descriptors s.used page (place_at k (j * 2 ^ k))
+    free_place k j known lt free = record {
+      lies = place_number s.used k j known lt;
+      free = λ other block ne e.
+          apart_from block (place_at k (j * 2 ^ k)) (some_units block.order (known_order other block e)) (some_units k known) (λ v in_block in_place.
+          both_ways (any_holds (map block_of (set s.descriptors page Zero)) v)
+          (free v in_place.0 in_place.1)
+          (held_by (set s.descriptors page Zero) other block v (block_at-other s.descriptors page other Zero ne ∙ e) in_block));
+    }
+
+    -- a crowded store is tight
+    pub crowded_tight : (k : ℕ) → k ≤ 3
+        → ((i : ℕ) (desc : Desc) → i ≢ page → slice_get s.descriptors i ≡ Some desc → IsAtPlan (plan_of s.codec (page_of s.lines i)) desc)
+        → ((unit : ℕ) → IsFreeFor s.descriptors s.used page (place_at k unit) → ⊥) → Tight s.codec (length s.used) s.lines page k
+    unfolding Tight
+    crowded_tight k known at_plan none =
+        let met : length s.used * 2 ^ (3 - k) ≤ sum_by (weight k) (map block_of (set s.descriptors page Zero)) =
+        all_met (length s.used * 2 ^ (3 - k)) k (map block_of (set s.descriptors page Zero)) known other_runs (λ j lt free. none (j * 2 ^ k) (free_place k j known lt free)) in
+        let shares = shares_are k at_plan in
+        omega (arith, met, shares)
+
+    -- and then its frames are fewer than its pages
+    pub tight_few : (k : ℕ) → k ≤ 3 → ((i : ℕ) (desc : Desc) → i ≢ page → slice_get s.descriptors i ≡ Some desc → IsAtPlan (plan_of s.codec (page_of s.lines i)) desc)
+        → Tight s.codec (length s.used) s.lines page k → length s.used < length s.descriptors
+    unfolding Tight
+    tight_few k known at_plan tight =
+        let bounded : sum_by (weight_of k) (set s.descriptors page Zero) + 2 ^ (3 - k) ≤ 2 ^ (3 - k) * length s.descriptors =
+        sum_by-but_one (weight_of k) (2 ^ (3 - k)) s.descriptors page Zero within refl (λ i desc e. weight_most k (block_of desc) known (λ block f. known_order i block (block_at-get s.descriptors i desc e ∙ f))) in
+        let shares = shares_are k at_plan in
+        let mapped : sum_by (weight k) (map block_of (set s.descriptors page Zero)) ≡ sum_by (weight_of k) (set s.descriptors page Zero) = sum_by-map (weight k) block_of (set s.descriptors page Zero) in
+        let some : 1 ≤ 2 ^ (3 - k) = some_units (3 - k) (omega arith) in
+        elim (cases_lt (length s.used) (length s.descriptors)) [
+          | inl lt ↦ lt
+          | inr le ↦ absurd (omega (arith, mul-le-mul_left (2 ^ (3 - k)) le, bounded, shares, mapped, tight, some))
+        ]

@@ -1,0 +1,124 @@
+-- A store whose lines change in one page.
+use Rattle.std.proofs.Common.{◌≡◌, ◌≢◌, ◌<◌, ◌≤◌, ◌+◌, ◌*◌, ◌/◌, ◌∙◌, ℕ, Option, Some, None, List, [], ◌++◌, length, set, take, drop, slice_get, IfSome, refl, sym, ap, subst, inl, inr, arith}
+use Rattle.std.proofs.lemmas.Bool.{cases_eq}
+use Rattle.std.proofs.lemmas.List.{length-set}
+use Rattle.std.proofs.lemmas.List.Elements.{All-append, All-take, All-drop}
+use Rattle.std.proofs.lemmas.Option.{none-some, same_Some}
+use Rattle.hier_types.specs.Lines.{AreLines}
+use Rattle.hier_types.specs.Causes.{raised}
+use Rattle.hier_types.specs.declared.counts.PageCounts.{PageCounts}
+use Rattle.hier_types.specs.declared.faults.NoSpace.{NoSpace}
+use Rattle.hier_types.specs.declared.settings.Codec.{Codec}
+use Rattle.page_plan.specs.declared.least.PagePlan.{PagePlan}
+use Rattle.page_plan.specs.declared.least.PagePlan.TheVariants as plan
+use Rattle.page_plan.specs.Layout.{stored_sizes}
+use Rattle.page_plan.specs.PagePlan.{IsPlan, plan_of}
+use Rattle.page_plan.proofs.PlanLemmas.{IsPlan-plan_of}
+use Rattle.page_store.specs.declared.desc.Desc.{Desc}
+use Rattle.page_store.specs.declared.desc.Desc.TheVariants.{Zero, Packed, Raw}
+use Rattle.page_store.specs.Pages.{page_of, with_page}
+use Rattle.page_store.specs.Homes.{order_of, block_of, IsAtPlan, AreSound, Settles, LacksRoom}
+use Rattle.page_store.specs.Store.{Store, IsSound, AreSizes, IsKept}
+use Rattle.page_store.specs.Crowds.{Crowded, Tight}
+use Rattle.page_store.specs.Calls.{Refused, Rewrites}
+use Rattle.page_store.proofs.CrowdLemmas.{crowded_tight, tight_few}
+use Rattle.page_store.proofs.ListLemmas.{get-set_same, get-set_other}
+use Rattle.page_store.proofs.PageLemmas.{length-with_page, page_of-with, page_of-with_other}
+
+-- the order of a plan is at most 3
+small_order : (codec : Codec) (lines : List (List ℕ)) (p : PagePlan) (order : ℕ) → IsPlan codec lines p → order_of p ≡ Some order → order ≤ 3
+small_order codec lines plan.Zero order is_plan e = absurd (none-some order e)
+small_order codec lines (plan.Packed k target exceptions) order is_plan e =
+    let same : k ≡ order = same_Some k order e in
+    let known : k ≤ 2 = is_plan.1.is_order.known in
+    omega arith
+small_order codec lines plan.Raw order is_plan e = let same : ◌≡◌ {A = ℕ} 3 order = same_Some 3 order e in omega arith
+
+module _ (s : Store) (sizes : List (List (Option ℕ))) (kept : IsKept s sizes) (page : ℕ) (within : page < length s.descriptors) where
+  inside : 64 * page + 64 ≤ length s.lines
+  inside = let whole : length s.lines ≡ 64 * length s.descriptors = kept.sound.whole in omega arith
+
+  module _ (others : List (List ℕ)) (whole : length others ≡ 64) (are_lines : AreLines others) where
+    lines_after : AreLines (with_page s.lines page others)
+    lines_after =
+        All-append (λ line. length line ≡ 64) (take (64 * page) s.lines ++ others) (drop (64 * page + 64) s.lines)
+        (All-append (λ line. length line ≡ 64) (take (64 * page) s.lines) others (All-take (λ line. length line ≡ 64) (64 * page) s.lines kept.sound.lines_are) are_lines)
+        (All-drop (λ line. length line ≡ 64) (64 * page + 64) s.lines kept.sound.lines_are)
+
+    here : page_of (with_page s.lines page others) page ≡ others
+    here = page_of-with s.lines page others inside whole
+
+    -- the relation of the call
+    pub rewrites : (ds : List Desc) (used : List ℕ) (p : PagePlan) (t : Store) → p ≡ plan_of s.codec others → Settles s.descriptors s.used page p ds used
+        → t ≡ record { codec = s.codec; lines = with_page s.lines page others; descriptors = ds; used = used; counts = s.counts; stops = s.stops }
+        → Rewrites s page (with_page s.lines page others) s.counts t
+    rewrites ds used p t planned settles is = rw is (record {
+      lines_are = refl;
+      settles = subst (λ q. Settles s.descriptors s.used page q ds used) (planned ∙ ap (plan_of s.codec) (sym here)) settles;
+      counts_are = refl;
+      codec_is = refl;
+      stops_are = refl;
+    })
+
+    -- the store stays as it is to be kept
+    pub kept_after : (new : List (Option ℕ)) (ds : List Desc) (used : List ℕ) (p : PagePlan) → stored_sizes s.codec others ≡ new → p ≡ plan_of s.codec others
+        → Settles s.descriptors s.used page p ds used → AreSound ds used
+        → IsKept (record { codec = s.codec; lines = with_page s.lines page others; descriptors = ds; used = used; counts = s.counts; stops = s.stops }) (set sizes page new)
+    kept_after new ds used p sized planned settles sound =
+        let same_pages : length ds ≡ length s.descriptors = ap length settles.descriptors_are ∙ length-set s.descriptors page settles.desc in
+        let lines_counted = length-with_page s.lines page others inside whole in
+        let some : 1 ≤ length s.descriptors = kept.sound.some in
+        let most : length s.descriptors ≤ 65536 = kept.sound.most in
+        let before : length s.lines ≡ 64 * length s.descriptors = kept.sound.whole in
+        let counted : length sizes ≡ length s.descriptors = kept.counted in
+        record {
+          sound = record {
+            some = omega arith;
+            most = omega arith;
+            whole = omega (arith, lines_counted);
+            lines_are = lines_after;
+            at_plan = λ q desc e. elim (cases_eq q page) [
+              | inl same ↦
+                  let is : settles.desc ≡ desc =
+                  same_Some settles.desc desc (sym (get-set_same s.descriptors page settles.desc within) ∙ ap (λ xs. slice_get xs page) (sym settles.descriptors_are)
+                  ∙ ap (slice_get ds) (sym same) ∙ e) in
+                  let at : IsAtPlan (plan_of s.codec (page_of (with_page s.lines page others) page)) settles.desc =
+                  subst (λ r. IsAtPlan r settles.desc) (planned ∙ ap (plan_of s.codec) (sym here)) settles.at_plan in
+                  subst (λ (r : ℕ). IsAtPlan (plan_of s.codec (page_of (with_page s.lines page others) r)) desc) (sym same)
+                  (subst (λ d. IsAtPlan (plan_of s.codec (page_of (with_page s.lines page others) page)) d) is at)
+              | inr ne ↦
+                  let there : slice_get s.descriptors q ≡ Some desc =
+                  sym (get-set_other s.descriptors page q settles.desc ne) ∙ ap (λ xs. slice_get xs q) (sym settles.descriptors_are) ∙ e in
+                  subst (λ lines. IsAtPlan (plan_of s.codec lines) desc) (sym (page_of-with_other s.lines page others inside whole q ne)) (kept.sound.at_plan q desc there)
+            ];
+            blocks_are = sound;
+          };
+          counted = length-set sizes page new ∙ counted ∙ sym same_pages;
+          sized = λ q lt. elim (cases_eq q page) [
+            | inl same ↦
+                let own : slice_get (set sizes page new) page ≡ Some (stored_sizes s.codec (page_of (with_page s.lines page others) page)) =
+                get-set_same sizes page new (omega arith) ∙ ap Some (sym sized ∙ ap (stored_sizes s.codec) (sym here)) in
+                subst (λ (r : ℕ). slice_get (set sizes page new) r ≡ Some (stored_sizes s.codec (page_of (with_page s.lines page others) r))) (sym same) own
+            | inr ne ↦
+                let before_lt : q < length sizes = omega (arith, length-set sizes page new) in
+                get-set_other sizes page q new ne ∙ kept.sized q before_lt ∙ ap (λ lines. Some (stored_sizes s.codec lines)) (sym (page_of-with_other s.lines page others inside whole q ne))
+          ];
+        }
+
+    -- a refusal
+    pub refuses : (order : ℕ) (p : PagePlan) (refusal : NoSpace) (t : Store) → p ≡ plan_of s.codec others → LacksRoom s.descriptors s.used page p order
+        → refusal.page.0 ≡ page → refusal.order ≡ order → t ≡ record s { stops = raised s.stops } → Refused s page (with_page s.lines page others) refusal t
+    refuses order p refusal t planned lacks page_is order_is unchanged =
+        let plan_is : plan_of s.codec (page_of (with_page s.lines page others) page) ≡ p = ap (plan_of s.codec) here ∙ sym planned in
+        let known : order ≤ 3 = small_order s.codec others (plan_of s.codec others) order (IsPlan-plan_of s.codec others) (ap order_of (sym planned) ∙ lacks.order_is) in
+        let at_plan : (i : ℕ) (desc : Desc) → i ≢ page → slice_get s.descriptors i ≡ Some desc → IsAtPlan (plan_of s.codec (page_of s.lines i)) desc = λ i desc ne e. kept.sound.at_plan i desc e in
+        let tight = crowded_tight s kept.sound page within order known at_plan lacks.none in
+        rw (unchanged, page_is, order_is) (record {
+          page_is = refl;
+          order_is = ap order_of plan_is ∙ lacks.order_is;
+          outgrown = lacks.outgrown;
+          crowded = record { at_plan = at_plan; none = lacks.none };
+          tight = tight;
+          few = tight_few s kept.sound page within order known at_plan tight;
+          unchanged = refl;
+        })
