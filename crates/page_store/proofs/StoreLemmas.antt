@@ -1,29 +1,32 @@
 -- A store whose lines change in one page.
-use Rattle.std.proofs.Common.{◌≡◌, ◌≢◌, ◌<◌, ◌≤◌, ◌+◌, ◌*◌, ◌/◌, ◌∙◌, ℕ, Option, Some, None, List, [], ◌++◌, length, set, take, drop, slice_get, IfSome, refl, sym, ap, subst, inl, inr, arith}
+use Rattle.std.proofs.Common.{◌≡◌, ◌≢◌, ◌<◌, ◌≤◌, ◌+◌, ◌-◌, ◌*◌, ◌/◌, ◌%◌, ◌∙◌, ℕ, Option, Some, None, List, [], ◌++◌, length, get_or, set, take, drop, replicate, slice_get, IfSome, refl, sym, ap, subst, inl, inr, arith}
 use Rattle.std.proofs.lemmas.Bool.{cases_eq}
-use Rattle.std.proofs.lemmas.List.{length-set}
-use Rattle.std.proofs.lemmas.List.Elements.{All-append, All-take, All-drop}
-use Rattle.std.proofs.lemmas.Option.{none-some, same_Some}
-use Rattle.hier_types.specs.Lines.{AreLines}
+use Rattle.std.proofs.lemmas.List.{length-set, length-drop, length-replicate, length-take-le, map-set, drop-replicate, take-replicate, get_or-replicate}
+use Rattle.std.proofs.lemmas.List.Elements.{All-append, All-take, All-drop, All-replicate}
+use Rattle.std.proofs.lemmas.Option.{none-some, same_Some, slice_get_read, slice_get_within, slice_get-get_or, get_or_from_slice_get}
+use Rattle.hier_types.specs.Lines.{AreLines, zero_line}
 use Rattle.hier_types.specs.Causes.{raised}
 use Rattle.hier_types.specs.declared.counts.PageCounts.{PageCounts}
 use Rattle.hier_types.specs.declared.faults.NoSpace.{NoSpace}
 use Rattle.hier_types.specs.declared.settings.Codec.{Codec}
+use Rattle.hier_types.proofs.TableLemmas.{length-tabulate, get_or-tabulate}
+use Rattle.hier_types.proofs.LineLemmas.{lines-set}
+use Rattle.line_codec.specs.Slots.{stored}
 use Rattle.page_plan.specs.declared.least.PagePlan.{PagePlan}
 use Rattle.page_plan.specs.declared.least.PagePlan.TheVariants as plan
 use Rattle.page_plan.specs.Layout.{stored_sizes}
 use Rattle.page_plan.specs.PagePlan.{IsPlan, plan_of}
-use Rattle.page_plan.proofs.PlanLemmas.{IsPlan-plan_of}
+use Rattle.page_plan.proofs.PlanLemmas.{IsPlan-plan_of, only_plan}
 use Rattle.page_store.specs.declared.desc.Desc.{Desc}
 use Rattle.page_store.specs.declared.desc.Desc.TheVariants.{Zero, Packed, Raw}
-use Rattle.page_store.specs.Pages.{page_of, with_page}
+use Rattle.page_store.specs.Pages.{page_of, with_page, lines_of}
 use Rattle.page_store.specs.Homes.{order_of, block_of, IsAtPlan, AreSound, Settles, LacksRoom}
 use Rattle.page_store.specs.Store.{Store, IsSound, AreSizes, IsKept}
 use Rattle.page_store.specs.Crowds.{Crowded, Tight}
 use Rattle.page_store.specs.Calls.{Refused, Rewrites}
 use Rattle.page_store.proofs.CrowdLemmas.{crowded_tight, tight_few}
 use Rattle.page_store.proofs.ListLemmas.{get-set_same, get-set_other}
-use Rattle.page_store.proofs.PageLemmas.{length-with_page, page_of-with, page_of-with_other}
+use Rattle.page_store.proofs.PageLemmas.{length-with_page, page_of-set, page_of-with, page_of-with_other}
 
 -- the order of a plan is at most 3
 small_order : (codec : Codec) (lines : List (List ℕ)) (p : PagePlan) (order : ℕ) → IsPlan codec lines p → order_of p ≡ Some order → order ≤ 3
@@ -122,3 +125,60 @@ module _ (s : Store) (sizes : List (List (Option ℕ))) (kept : IsKept s sizes) 
           few = tight_few s kept.sound page within order known at_plan tight;
           unchanged = refl;
         })
+
+-- the lines of a page, one of which was changed
+pub changed_lines : (lines : List (List ℕ)) (i : ℕ) (bytes : List ℕ) → AreLines lines → length bytes ≡ 64 → AreLines (page_of (set lines i bytes) (i / 64))
+changed_lines lines i bytes are full =
+    All-take (λ line. length line ≡ 64) 64 (drop (64 * (i / 64)) (set lines i bytes))
+    (All-drop (λ line. length line ≡ 64) (64 * (i / 64)) (set lines i bytes) (lines-set lines i bytes are full))
+
+-- and their sizes
+pub changed_sizes : (codec : Codec) (lines : List (List ℕ)) (i : ℕ) (bytes : List ℕ) (sizes : List (List (Option ℕ))) (before : List (Option ℕ)) → AreSizes codec lines sizes
+    → i / 64 < length sizes → before ≡ get_or sizes (i / 64) before
+    → stored_sizes codec (page_of (set lines i bytes) (i / 64)) ≡ set before (i % 64) (stored codec bytes)
+changed_sizes codec lines i bytes sizes before sized lt read =
+    let there : slice_get sizes (i / 64) ≡ Some before = slice_get_read sizes (length sizes) (i / 64) before refl lt read in
+    let is : before ≡ stored_sizes codec (page_of lines (i / 64)) = same_Some before (stored_sizes codec (page_of lines (i / 64))) (sym there ∙ sized (i / 64) lt) in
+    ap (stored_sizes codec) (page_of-set lines i bytes) ∙ map-set (stored codec) (page_of lines (i / 64)) (i % 64) bytes
+    ∙ ap (λ xs. set xs (i % 64) (stored codec bytes)) (sym is)
+
+-- the lines of a page's bytes
+pub lines_of_are : (bytes : List ℕ) → length bytes ≡ 4096 → AreLines (lines_of bytes)
+lines_of_are bytes whole k d lt =
+    let below : k < 64 = omega (arith, length-tabulate (λ line. take 64 (drop (64 * line) bytes)) 64) in
+    let rest : 64 ≤ length (drop (64 * k) bytes) = omega (arith, length-drop (64 * k) bytes) in
+    ap length (get_or-tabulate d (λ line. take 64 (drop (64 * line) bytes)) 64 k below) ∙ length-take-le 64 (drop (64 * k) bytes) rest
+
+-- a page of the memory at its start
+zero_page : (n page : ℕ) → page < n → page_of (replicate (64 * n) zero_line) page ≡ replicate 64 zero_line
+zero_page n page lt = ap (take 64) (drop-replicate (64 * page) (64 * n) zero_line) ∙ take-replicate 64 (64 * n - 64 * page) zero_line (omega arith)
+
+zero_plan : (codec : Codec) → plan.Zero ≡ plan_of codec (replicate 64 zero_line)
+zero_plan codec = only_plan codec (replicate 64 zero_line) plan.Zero (All-replicate (λ line. line ≡ zero_line) 64 zero_line refl)
+
+-- the store at its start
+pub kept_fresh : (codec : Codec) (pages : ℕ) (used : List ℕ) (counts : PageCounts) → 1 ≤ pages → pages ≤ 65536 → AreSound (replicate pages Zero) used
+    → IsKept (record { codec = codec; lines = replicate (64 * pages) zero_line; descriptors = replicate pages Zero; used = used; counts = counts; stops = 0 })
+        (replicate pages (stored_sizes codec (replicate 64 zero_line)))
+kept_fresh codec pages used counts some most sound =
+    let counted : length (replicate pages Zero) ≡ pages = length-replicate pages Zero in
+    record {
+      sound = record {
+        some = omega arith;
+        most = omega arith;
+        whole = length-replicate (64 * pages) zero_line ∙ ap (λ n. 64 * n) (sym counted);
+        lines_are = All-replicate (λ line. length line ≡ 64) (64 * pages) zero_line refl;
+        at_plan = λ page desc e.
+            let lt : page < pages = omega (arith, slice_get_within (replicate pages Zero) page desc e) in
+            let is : Zero ≡ desc = sym (get_or-replicate pages page Zero desc lt) ∙ get_or_from_slice_get (replicate pages Zero) page desc desc e in
+            let planned : plan.Zero ≡ plan_of codec (page_of (replicate (64 * pages) zero_line) page) = zero_plan codec ∙ ap (plan_of codec) (sym (zero_page pages page lt)) in
+            subst (λ p. IsAtPlan p desc) planned (subst (λ d. IsAtPlan plan.Zero d) is tt);
+        blocks_are = sound;
+      };
+      counted = length-replicate pages (stored_sizes codec (replicate 64 zero_line)) ∙ sym counted;
+      sized = λ page lt.
+          let sizes = stored_sizes codec (replicate 64 zero_line) in
+          let below : page < pages = omega (arith, length-replicate pages sizes) in
+          slice_get-get_or (replicate pages sizes) page [] lt ∙ ap Some (get_or-replicate pages page sizes [] below)
+          ∙ ap (λ lines. Some (stored_sizes codec lines)) (sym (zero_page pages page below));
+    }

@@ -46,7 +46,8 @@ impl Blocks {
     pub(crate) fn new(alloc: Global, pages: u32, frames: u32) -> Result<Blocks, NoMemory>
         requires some { 1 ≤ frames }
         requires most { frames ≤ 65536 }
-        ensures { IfOk result (λ blocks. blocks ≡ record { descriptors = replicate pages desc.Zero; used = replicate frames 0 }) }
+        ensures fresh { IfOk result (λ blocks. blocks ≡ record { descriptors = replicate pages desc.Zero; used = replicate frames 0 }) }
+        ensures sound { IfOk result (λ blocks. AreSound blocks.descriptors blocks.used) }
     {
         let descriptors = zero_pages(alloc, pages)?;
         let frames = Frames::new(alloc, frames)?;

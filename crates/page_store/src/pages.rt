@@ -72,8 +72,10 @@ impl Pages {
         ensures { IfOk result (λ made. made ≡ record { codec = codec; lines = replicate (64 * geometry.pages) zero_line; descriptors = replicate geometry.pages desc.Zero; used = replicate frames 0; counts = record { reads = 0; writes = 0; meta_hits = 0; meta_misses = 0; mover_turns = 0; tidy_turns = 0 }; stops = 0 }) }
     {
         let pages = geometry.pages;
-        let lines = zero_lines(alloc, pages * PAGE_LINES)?;
-        let sizes = same_sizes(alloc, pages, &sizes_of(codec, &[[0; 64]; 64]))?;
+        let lines = zero_lines(alloc, PAGE_LINES * pages)?;
+        let zero_page = [[0; 64]; 64];
+        let zero_sizes = sizes_of(codec, &zero_page);
+        let sizes = same_sizes(alloc, pages, &zero_sizes)?;
         let blocks = Blocks::new(alloc, pages, frames)?;
         Ok(Pages {
             codec,
