@@ -122,17 +122,21 @@ pub record IsTaken (ds : List Desc) (page : ℕ) (held : Desc) : Type 0 where
 pub taken_at : (ds : List Desc) (page : ℕ) (x held : Desc) → page < length ds → x ≡ get_or ds page x → held ≡ x → IsTaken ds page held
 taken_at ds page x held within read same = record { within = within; there = slice_get_read ds (length ds) page x refl within read ∙ ap Some (sym same) }
 
+-- the block of a page is in use
+live_at : (ds : List Desc) (used : List ℕ) (page : ℕ) (o : Option Place) → AreSound ds used → block_at ds page ≡ o → IfSome o (IsUsedPlace used)
+live_at ds used page None sound e = tt
+live_at ds used page (Some block) sound e = sound.live page block e
+
+pub block_live : (ds : List Desc) (used : List ℕ) (page : ℕ) → AreSound ds used → IfSome (block_at ds page) (IsUsedPlace used)
+block_live ds used page sound = live_at ds used page (block_at ds page) sound refl
+
 module _ (ds : List Desc) (used : List ℕ) (page : ℕ) (held : Desc) (sound : AreSound ds used) (taken : IsTaken ds page held) where
   block_is : block_at ds page ≡ block_of held
   block_is = block_at-get ds page held taken.there
 
-  live_at : (o : Option Place) → block_at ds page ≡ o → IfSome o (IsUsedPlace used)
-  live_at None e = tt
-  live_at (Some block) e = sound.live page block e
-
   -- its block is in use
   pub taken_live : IfSome (block_of held) (IsUsedPlace used)
-  taken_live = live_at (block_of held) block_is
+  taken_live = live_at ds used page (block_of held) sound block_is
 
   -- it comes to its plan
   pub taken_settles : (x desc : Desc) (plan : PagePlan) (used' : List ℕ) → IsAtPlan plan desc → Moves used (block_of held) (block_of desc) used'

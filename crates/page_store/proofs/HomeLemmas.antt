@@ -1,9 +1,14 @@
 -- One page's block, before and after it moves.
-use Rattle.std.proofs.Common.{◌≡◌, ◌<◌, ◌≤◌, ◌+◌, ◌%◌, ◌^◌, ◌∙◌, ◌⊎◌, leb, ltb, ◌&&◌, ℕ, true, false, Some, None, Option, Ok, Err, Result, IfOk, MatchResult, List, length, inl, inr, sym, subst, arith}
-use Rattle.std.proofs.lemmas.Bool.{cases_Bool, cases_lt, and_from, and_parts, ltb-true, leb-true, lt-ltb, le-leb, cond-true, cond-false}
+use Rattle.std.proofs.Common.{◌≡◌, ◌<◌, ◌≤◌, ◌+◌, ◌%◌, ◌^◌, ◌∙◌, ◌⊎◌, leb, ltb, eqb, ◌&&◌, ℕ, zero, suc, true, false, Some, None, Option, Ok, Err, Result, IfOk, IfSome, MatchResult, List, inl, inr, refl, sym, subst, arith}
+use Rattle.std.specs.Int.{bit_at}
+use Rattle.std.proofs.lemmas.Bool.{cases_Bool, cases_lt, and_from, and_parts, ltb-true, leb-true, lt-ltb, le-leb, cond-true, cond-false, eqb-true, eq-eqb}
 use Rattle.std.proofs.lemmas.Nat.Bits.{bit_at-lt}
-use Rattle.buddy_frames.specs.Units.{Place, place_at, past, in_use, IsUsedPlace, IsChoice, HasNone, SetsUnits, Takes, AreApart, KeepsOthers, KeepsUsed, IsApart, StaysApart, taken, given}
-use Rattle.page_store.specs.Homes.{IsIn}
+use Rattle.buddy_frames.specs.Units.{Place, place_at, past, in_use, IsUsedPlace, IsChoice, HasNone, SetsUnits, Takes, AreApart, KeepsOthers, KeepsUsed, IsApart, StaysApart, taken, given, run_bits}
+use Rattle.buddy_frames.specs.FrameByte.{all_below, run_is}
+use Rattle.buddy_frames.proofs.TableLemmas.{all_at, all_from, clears_byte}
+use Rattle.buddy_frames.proofs.PlaceLemmas.{byte_at, fits_frame, to_run}
+use Rattle.buddy_frames.proofs.MoveLemmas.{taken-given}
+use Rattle.page_store.specs.Homes.{IsHome, IsIn, moved}
 use Rattle.page_store.specs.Moves.{HasNoneBut, Moves, Houses}
 
 -- a unit in use after a place came into use
@@ -124,7 +129,7 @@ pub none_taken : (used : List ℕ) (order : ℕ) → HasNone used order → HasN
 none_taken used order none unit free = none unit (record {
   lies = free.lies;
   free = λ v low high. elim (unit_state used v) [
-    | inl zero ↦ zero
+    | inl idle ↦ idle
     | inr one ↦ absurd (free.free v (low, high) one)
   ];
 })
@@ -134,9 +139,48 @@ pub none_grown : (used : List ℕ) (old : Place) (order : ℕ) → SetsUnits use
 none_grown used old order frees none unit free = none unit (record {
   lies = record { known = free.lies.known; aligned = free.lies.aligned; within = rw frees.same free.lies.within };
   free = λ v low high. elim (unit_state (given used old) v) [
-    | inl zero ↦ zero
+    | inl idle ↦ idle
     | inr one ↦
         let before = cleared_owned used old (given used old) v frees one in
         absurd (before.1 (free.free v (low, high) before.0))
   ];
 })
+
+-- the low eight bits of a number
+low_bit : (b i : ℕ) → i < 8 → bit_at (b % 256) i ≡ bit_at b i
+low_bit b zero lt = omega arith
+low_bit b (suc zero) lt = omega arith
+low_bit b (suc (suc zero)) lt = omega arith
+low_bit b (suc (suc (suc zero))) lt = omega arith
+low_bit b (suc (suc (suc (suc zero)))) lt = omega arith
+low_bit b (suc (suc (suc (suc (suc zero))))) lt = omega arith
+low_bit b (suc (suc (suc (suc (suc (suc zero)))))) lt = omega arith
+low_bit b (suc (suc (suc (suc (suc (suc (suc zero))))))) lt = omega arith
+low_bit b (suc (suc (suc (suc (suc (suc (suc (suc i)))))))) lt = absurd (omega arith)
+
+low_run : (b o at : ℕ) → at + 2 ^ o ≤ 8 → run_is b o at 1 ≡ true → run_is (b % 256) o at 1 ≡ true
+low_run b o at room h =
+    let parts = and_parts (eqb (at % 2 ^ o) 0) (all_below (2 ^ o) (λ i. eqb (bit_at b (at + i)) 1)) h in
+    and_from (eqb (at % 2 ^ o) 0) (all_below (2 ^ o) (λ i. eqb (bit_at (b % 256) (at + i)) 1)) parts.0
+    (all_from (2 ^ o) (λ i. eqb (bit_at (b % 256) (at + i)) 1) (λ i lt.
+    eq-eqb (bit_at (b % 256) (at + i)) 1
+    (low_bit b (at + i) (omega arith) ∙ eqb-true (bit_at b (at + i)) 1 (all_at (2 ^ o) (λ i. eqb (bit_at b (at + i)) 1) parts.1 i lt))))
+
+-- a used place that is given and taken again
+given_again : (used : List ℕ) (place : Place) → IsUsedPlace used place → taken (given used place) place ≡ used
+given_again used place live =
+    let byte = byte_at used place.unit in
+    let known = live.lies.known in
+    let room = (fits_frame place.order place.unit known live.lies.aligned).room in
+    let run = low_run byte place.order (place.unit % 8) room (to_run used place 1 live.lies live.full) in
+    let fits : run_bits place.order (place.unit % 8) ≤ byte % 256 = (clears_byte (byte % 256) place.order (place.unit % 8) (omega arith) known (omega arith) run).fits in
+    taken-given used place (omega arith) live.lies
+
+-- a page that keeps its block
+pub kept_home : (used : List ℕ) (held : Option Place) → IsHome used held held
+kept_home used None = tt
+kept_home used (Some block) = (λ room. refl, λ more. absurd (omega arith))
+
+pub kept_units : (used : List ℕ) (held : Option Place) → IfSome held (IsUsedPlace used) → used ≡ moved used held held
+kept_units used None live = refl
+kept_units used (Some block) live = sym (given_again used block live)

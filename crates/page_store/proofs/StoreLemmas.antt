@@ -1,9 +1,10 @@
 -- A store whose lines change in one page.
 use Rattle.std.proofs.Common.{◌≡◌, ◌≢◌, ◌<◌, ◌≤◌, ◌+◌, ◌-◌, ◌*◌, ◌/◌, ◌%◌, ◌∙◌, ℕ, Option, Some, None, List, [], ◌++◌, length, get_or, set, take, drop, replicate, slice_get, IfSome, refl, sym, ap, subst, inl, inr, arith}
 use Rattle.std.proofs.lemmas.Bool.{cases_eq}
-use Rattle.std.proofs.lemmas.List.{length-set, length-drop, length-replicate, length-take-le, map-set, drop-replicate, take-replicate, get_or-replicate}
+use Rattle.std.proofs.lemmas.List.{set-get_or, get_or_read, length-set, length-drop, length-replicate, length-take-le, map-set, drop-replicate, take-replicate, get_or-replicate}
 use Rattle.std.proofs.lemmas.List.Elements.{All-append, All-take, All-drop, All-replicate}
 use Rattle.std.proofs.lemmas.Option.{none-some, same_Some, slice_get_read, slice_get_within, slice_get-get_or, get_or_from_slice_get}
+use Rattle.buddy_frames.specs.Units.{IsUsedPlace}
 use Rattle.hier_types.specs.Lines.{AreLines, zero_line}
 use Rattle.hier_types.specs.Causes.{raised}
 use Rattle.hier_types.specs.declared.counts.PageCounts.{PageCounts}
@@ -20,10 +21,12 @@ use Rattle.page_plan.proofs.PlanLemmas.{IsPlan-plan_of, only_plan}
 use Rattle.page_store.specs.declared.desc.Desc.{Desc}
 use Rattle.page_store.specs.declared.desc.Desc.TheVariants.{Zero, Packed, Raw}
 use Rattle.page_store.specs.Pages.{page_of, with_page, lines_of}
-use Rattle.page_store.specs.Homes.{order_of, block_of, IsAtPlan, AreSound, Settles, LacksRoom}
+use Rattle.page_store.specs.Homes.{order_of, block_of, block_at, moved, IsHome, IsAtPlan, AreSound, Settles, LacksRoom}
 use Rattle.page_store.specs.Store.{Store, IsSound, AreSizes, IsKept}
 use Rattle.page_store.specs.Crowds.{Crowded, Tight}
 use Rattle.page_store.specs.Calls.{Refused, Rewrites}
+use Rattle.page_store.proofs.HomeLemmas.{kept_home, kept_units}
+use Rattle.page_store.proofs.BlockLemmas.{block_at-get, block_live}
 use Rattle.page_store.proofs.CrowdLemmas.{crowded_tight, tight_few}
 use Rattle.page_store.proofs.ListLemmas.{get-set_same, get-set_other}
 use Rattle.page_store.proofs.PageLemmas.{length-with_page, page_of-set, page_of-with, page_of-with_other}
@@ -141,6 +144,33 @@ changed_sizes codec lines i bytes sizes before sized lt read =
     let is : before ≡ stored_sizes codec (page_of lines (i / 64)) = same_Some before (stored_sizes codec (page_of lines (i / 64))) (sym there ∙ sized (i / 64) lt) in
     ap (stored_sizes codec) (page_of-set lines i bytes) ∙ map-set (stored codec) (page_of lines (i / 64)) (i % 64) bytes
     ∙ ap (λ xs. set xs (i % 64) (stored codec bytes)) (sym is)
+
+-- a write of the bytes that are there changes nothing
+pub same_lines : (lines : List (List ℕ)) (i : ℕ) (read bytes : List ℕ) → i < length lines → read ≡ get_or lines i read → read ≡ bytes → set lines i bytes ≡ lines
+same_lines lines i read bytes lt is same =
+    ap (set lines i) (sym same ∙ get_or_read lines i read lt is []) ∙ set-get_or lines i []
+
+-- a page whose lines stay is at its plan as it is
+pub stays : (s : Store) (page : ℕ) (lines : List (List ℕ)) (counts : PageCounts) (t : Store) → IsSound s → page < length s.descriptors → lines ≡ s.lines
+    → t ≡ record s { counts = counts } → Rewrites s page lines counts t
+stays s page lines counts t sound within same is =
+    let desc = get_or s.descriptors page Zero in
+    let there : slice_get s.descriptors page ≡ Some desc = slice_get-get_or s.descriptors page Zero within in
+    let block_is : block_at s.descriptors page ≡ block_of desc = block_at-get s.descriptors page desc there in
+    let live : IfSome (block_at s.descriptors page) (IsUsedPlace s.used) = block_live s.descriptors s.used page sound.blocks_are in
+    rw (is, same) (record {
+      lines_are = refl;
+      settles = record {
+        desc = desc;
+        at_plan = sound.at_plan page desc there;
+        home = subst (λ o. IsHome s.used (block_at s.descriptors page) o) block_is (kept_home s.used (block_at s.descriptors page));
+        descriptors_are = sym (set-get_or s.descriptors page Zero);
+        used_is = kept_units s.used (block_at s.descriptors page) live ∙ ap (moved s.used (block_at s.descriptors page)) block_is;
+      };
+      counts_are = refl;
+      codec_is = refl;
+      stops_are = refl;
+    })
 
 -- the lines of a page's bytes
 pub lines_of_are : (bytes : List ℕ) → length bytes ≡ 4096 → AreLines (lines_of bytes)
