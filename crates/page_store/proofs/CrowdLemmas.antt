@@ -1,15 +1,13 @@
 -- A crowded store is tight, and tight stores have fewer frames than pages.
-use Rattle.std.proofs.Common.{◌≡◌, ◌≢◌, ◌<◌, ◌≤◌, ◌+◌, ◌-◌, ◌*◌, ◌/◌, ◌%◌, ◌^◌, ◌⊎◌, ◌∙◌, leb, ltb, ◌&&◌, ◌||◌, ℕ, zero, suc, true, false, Option, Some, None, option_map, List, [], ◌∷◌, IfSome, length, set, map, slice_get, refl, sym, ap, subst, inl, inr, arith}
+use Rattle.std.proofs.Common.{◌≡◌, ◌≢◌, ◌<◌, ◌≤◌, ◌+◌, ◌-◌, ◌*◌, ◌/◌, ◌%◌, ◌^◌, ◌⊎◌, ◌∙◌, leb, ltb, ◌&&◌, ◌||◌, ℕ, zero, suc, true, false, Option, Some, None, List, [], ◌∷◌, IfSome, length, set, map, slice_get, refl, sym, ap, subst, inl, inr, arith}
 use Rattle.std.specs.List.{sum_by}
 use Rattle.std.proofs.lemmas.Bool.{cases_eq, cases_lt, cases_Bool, and_from, le-leb, lt-ltb, both_ways, or_left, or_right}
-use Rattle.std.proofs.lemmas.List.{length-map, length-set}
+use Rattle.std.proofs.lemmas.List.{length-set}
 use Rattle.std.proofs.lemmas.List.Sums.{sum_by-cons}
-use Rattle.std.proofs.lemmas.Option.{slice_get-map, slice_get-get_or, slice_get_within, none-some, same_Some}
+use Rattle.std.proofs.lemmas.Option.{slice_get_within, none-some, same_Some}
 use Rattle.std.proofs.Math.Nat.{mul-le-mul_left}
 use Rattle.buddy_frames.specs.Units.{Place, place_at, past, IsPlace, AreApart}
 use Rattle.buddy_frames.proofs.PlaceLemmas.{four, some_units}
-use Rattle.hier_types.specs.Tabulate.{tabulate}
-use Rattle.hier_types.proofs.TableLemmas.{length-tabulate, get_or-tabulate}
 use Rattle.hier_types.specs.declared.faults.NoSpace.{NoSpace}
 use Rattle.hier_types.specs.declared.settings.Codec.{Codec}
 use Rattle.page_plan.specs.declared.least.PagePlan.{PagePlan}
@@ -17,23 +15,14 @@ use Rattle.page_plan.specs.declared.least.PagePlan.TheVariants as plan
 use Rattle.page_plan.specs.PagePlan.{plan_of}
 use Rattle.page_store.specs.declared.desc.Desc.{Desc}
 use Rattle.page_store.specs.declared.desc.Desc.TheVariants.{Zero, Packed, Raw}
-use Rattle.page_store.specs.Pages.{page_of, pages_of, plans_of}
+use Rattle.page_store.specs.Pages.{page_of, plans_of}
 use Rattle.page_store.specs.Homes.{block_of, block_at, IsAtPlan, IsFreeFor, IsIn}
 use Rattle.page_store.specs.Store.{Store, IsSound}
 use Rattle.page_store.specs.Crowds.{Crowded, Tight, share, share_of_order}
 use Rattle.page_store.proofs.BlockLemmas.{block_at-same, block_at-other, block_at-get}
 use Rattle.page_store.proofs.ListLemmas.{get-set_same, get-set_other, sum_by-map, sum_by-but_one}
+use Rattle.page_store.proofs.PageLemmas.{length-plans_of, plans_of-get}
 use Rattle.page_store.proofs.CountLemmas.{holds, any_holds, weight, AreRuns, all_met}
-
--- the plan of the page of a number
-pub plans_of-get : (codec : Codec) (lines : List (List ℕ)) (page : ℕ) → page < length lines / 64 → slice_get (plans_of codec lines) page ≡ Some (plan_of codec (page_of lines page))
-plans_of-get codec lines page lt =
-    let inside : page < length (pages_of lines) = omega (arith, length-tabulate (page_of lines) (length lines / 64)) in
-    slice_get-map (plan_of codec) (pages_of lines) page
-    ∙ ap (λ o. option_map (plan_of codec) o) (slice_get-get_or (pages_of lines) page [] inside ∙ ap Some (get_or-tabulate [] (page_of lines) (length lines / 64) page lt))
-
-pub length-plans_of : (codec : Codec) (lines : List (List ℕ)) → length (plans_of codec lines) ≡ length lines / 64
-length-plans_of codec lines = length-map (pages_of lines) (plan_of codec) ∙ length-tabulate (page_of lines) (length lines / 64)
 
 -- a block at its plan weighs the plan's share
 weight_share : (k : ℕ) (p : PagePlan) (desc : Desc) → IsAtPlan p desc → weight k (block_of desc) ≡ share k p

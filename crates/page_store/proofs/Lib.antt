@@ -5,3 +5,4 @@ pub mod ListLemmas
 pub mod CountLemmas
 pub mod CrowdLemmas
 pub mod StoreLemmas
+pub mod SizeLemmas

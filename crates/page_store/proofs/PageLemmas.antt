@@ -1,9 +1,13 @@
 -- The lines of one page among those of all.
-use Rattle.std.proofs.Common.{◌≡◌, ◌≢◌, ◌<◌, ◌≤◌, ◌+◌, ◌-◌, ◌*◌, ◌/◌, ◌%◌, ◌∙◌, ℕ, List, [], ◌∷◌, ◌++◌, length, get_or, set, take, drop, inl, inr, refl, sym, ap, subst, arith, append_assoc, length-append, length-take, length-drop}
+use Rattle.std.proofs.Common.{◌≡◌, ◌≢◌, ◌<◌, ◌≤◌, ◌+◌, ◌-◌, ◌*◌, ◌/◌, ◌%◌, ◌∙◌, ℕ, Some, option_map, List, [], ◌∷◌, ◌++◌, length, set, take, drop, slice_get, inl, inr, refl, sym, ap, subst, arith, append_assoc, length-append, length-take, length-drop}
 use Rattle.std.proofs.Math.Seq.{take-set-lt}
 use Rattle.std.proofs.lemmas.Bool.{cases_lt}
-use Rattle.std.proofs.lemmas.List.{take-append-drop, take_at, drop_at, take-append-le, drop-append-le, take-take, drop-take, take-set-le, drop-set-lt, drop-set-add, drop-drop, length-take-le}
-use Rattle.page_store.specs.Pages.{page_of, with_page}
+use Rattle.std.proofs.lemmas.List.{take-append-drop, take_at, drop_at, take-append-le, drop-append-le, take-take, drop-take, take-set-le, drop-set-lt, drop-set-add, drop-drop, length-map, length-take-le}
+use Rattle.std.proofs.lemmas.Option.{slice_get-map, slice_get-get_or, slice_get_within, same_Some}
+use Rattle.hier_types.proofs.TableLemmas.{length-tabulate, get_or-tabulate}
+use Rattle.hier_types.specs.declared.settings.Codec.{Codec}
+use Rattle.page_plan.specs.PagePlan.{plan_of}
+use Rattle.page_store.specs.Pages.{page_of, pages_of, plans_of, with_page}
 
 -- a write in the page
 pub page_of-set : (lines : List (List ℕ)) (i : ℕ) (x : List ℕ) → page_of (set lines i x) (i / 64) ≡ set (page_of lines (i / 64)) (i % 64) x
@@ -77,3 +81,25 @@ module _ (lines : List (List ℕ)) (page : ℕ) (others : List (List ℕ)) (with
     | inl before ↦ page_before q before
     | inr le ↦ page_behind q (omega arith)
   ]
+
+-- all pages, by number
+pub length-pages_of : (lines : List (List ℕ)) → length (pages_of lines) ≡ length lines / 64
+length-pages_of lines = length-tabulate (page_of lines) (length lines / 64)
+
+pub pages_of-get : (lines : List (List ℕ)) (page : ℕ) → page < length lines / 64 → slice_get (pages_of lines) page ≡ Some (page_of lines page)
+pages_of-get lines page lt =
+    let inside : page < length (pages_of lines) = omega (arith, length-pages_of lines) in
+    slice_get-get_or (pages_of lines) page [] inside ∙ ap Some (get_or-tabulate [] (page_of lines) (length lines / 64) page lt)
+
+-- a page of the list is the one of its number
+pub pages_of-is : (lines : List (List ℕ)) (i : ℕ) (page : List (List ℕ)) → slice_get (pages_of lines) i ≡ Some page → page_of lines i ≡ page
+pages_of-is lines i page e =
+    let within : i < length lines / 64 = omega (arith, slice_get_within (pages_of lines) i page e, length-pages_of lines) in
+    same_Some (page_of lines i) page (sym (pages_of-get lines i within) ∙ e)
+
+-- their plans
+pub length-plans_of : (codec : Codec) (lines : List (List ℕ)) → length (plans_of codec lines) ≡ length lines / 64
+length-plans_of codec lines = length-map (pages_of lines) (plan_of codec) ∙ length-pages_of lines
+
+pub plans_of-get : (codec : Codec) (lines : List (List ℕ)) (page : ℕ) → page < length lines / 64 → slice_get (plans_of codec lines) page ≡ Some (plan_of codec (page_of lines page))
+plans_of-get codec lines page lt = slice_get-map (plan_of codec) (pages_of lines) page ∙ ap (λ o. option_map (plan_of codec) o) (pages_of-get lines page lt)

@@ -24,12 +24,15 @@ use Rattle.page_store.specs.Pages.{page_of, with_page, lines_of}
 use Rattle.page_store.specs.Homes.{order_of, block_of, block_at, moved, IsHome, IsAtPlan, AreSound, Settles, LacksRoom}
 use Rattle.page_store.specs.Store.{Store, IsSound, AreSizes, IsKept}
 use Rattle.page_store.specs.Crowds.{Crowded, Tight}
+use Rattle.page_store.specs.Sizes.{sizes_of_memory}
+use Rattle.page_store.specs.KeptSizes.{totals_kept}
 use Rattle.page_store.specs.Calls.{Refused, Rewrites}
 use Rattle.page_store.proofs.HomeLemmas.{kept_home, kept_units}
 use Rattle.page_store.proofs.BlockLemmas.{block_at-get, block_live}
 use Rattle.page_store.proofs.CrowdLemmas.{crowded_tight, tight_few}
 use Rattle.page_store.proofs.ListLemmas.{get-set_same, get-set_other}
-use Rattle.page_store.proofs.PageLemmas.{length-with_page, page_of-set, page_of-with, page_of-with_other}
+use Rattle.page_store.proofs.PageLemmas.{length-with_page, page_of-set, page_of-with, page_of-with_other, length-pages_of, pages_of-is}
+use Rattle.page_store.proofs.SizeLemmas.{totals_are}
 
 -- the order of a plan is at most 3
 small_order : (codec : Codec) (lines : List (List ℕ)) (p : PagePlan) (order : ℕ) → IsPlan codec lines p → order_of p ≡ Some order → order ≤ 3
@@ -212,3 +215,14 @@ kept_fresh codec pages used counts some most sound =
           slice_get-get_or (replicate pages sizes) page [] lt ∙ ap Some (get_or-replicate pages page sizes [] below)
           ∙ ap (λ lines. Some (stored_sizes codec lines)) (sym (zero_page pages page below));
     }
+
+-- the totals of a store
+pub store_totals : (s : Store) (sizes : List (List (Option ℕ))) → IsKept s sizes → totals_kept s.descriptors sizes ≡ sizes_of_memory s.codec s.lines
+store_totals s sizes kept =
+    let whole = kept.sound.whole in
+    let counted = kept.counted in
+    totals_are s.codec s.lines s.descriptors sizes (omega (arith, length-pages_of s.lines, whole)) (omega (arith, length-pages_of s.lines, whole, counted))
+    (λ i page d e f. subst (λ lines. IsAtPlan (plan_of s.codec lines) d) (pages_of-is s.lines i page e) (kept.sound.at_plan i d f))
+    (λ i page sized e f.
+    let own = same_Some sized (stored_sizes s.codec (page_of s.lines i)) (sym f ∙ kept.sized i (slice_get_within sizes i sized f)) in
+    own ∙ ap (stored_sizes s.codec) (pages_of-is s.lines i page e))

@@ -5,3 +5,4 @@ pub mod Store
 pub mod Crowds
 pub mod Calls
 pub mod Sizes
+pub mod KeptSizes

@@ -1,5 +1,5 @@
 // The blocks of all pages.
-ghost use Rattle.std.specs.Prelude.{◌≡◌, ◌≤◌, ◌<◌, ◌*◌, ℕ, length, replicate, IfOk, IfErr, OnOk, OnErr, Some, slice_get};
+ghost use Rattle.std.specs.Prelude.{◌≡◌, ◌≤◌, ◌<◌, ◌*◌, ℕ, length, replicate, IfOk, IfErr, OnOk, OnErr};
 ghost use Rattle.buddy_frames.specs.Units.{place_at, IsFreeBlock, IsCount};
 ghost use Rattle.page_store.specs.Homes.{Settles, LacksRoom, AreSound};
 ghost use Rattle.page_store.specs.declared.desc.Desc.TheVariants as desc;
@@ -87,11 +87,10 @@ impl Blocks {
         self.frames.free(order)
     }
 
-    /// How a page is kept.
-    pub(crate) fn descriptor(&self, page: usize) -> &Desc
-        requires { page < length self.now.descriptors }
-        ensures { slice_get self.now.descriptors page ≡ Some result.now }
+    /// How each page is kept.
+    pub(crate) fn descriptors(&self) -> &[Desc]
+        ensures { result.now ≡ self.now.descriptors }
     {
-        &self.descriptors[page]
+        self.descriptors.as_slice()
     }
 }

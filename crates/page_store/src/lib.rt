@@ -10,5 +10,6 @@ mod page_lines;
 mod pages;
 #[cfg(test)]
 mod tests;
+mod totals;
 
 pub use pages::Pages;

@@ -6,7 +6,8 @@ ghost use Rattle.page_store.specs.declared.desc.Desc.TheVariants as desc;
 
 use crate::blocks::Blocks;
 use crate::page_lines::{lines_in, page_with, put_page};
-use hier_types::{Codec, Geometry, Layer, Line, LineNo, NoMemory, NoSpace, PAGE_LINES, PageCounts, PageNo};
+use hier_types::{Codec, Geometry, Layer, Line, LineNo, NoMemory, NoSpace, PAGE_LINES, PageCounts, PageNo, Totals};
+use crate::totals::total;
 use line_codec::stored_size;
 use page_plan::{plan_with, sizes_of};
 use std::alloc::Global;
@@ -61,6 +62,7 @@ impl Pages {
     ghost use Rattle.page_store.specs.Store.{IsSound};
     ghost use Rattle.page_store.specs.Calls.{written_more, RewritesPage, PlacesPage};
     ghost use Rattle.page_store.specs.Pages.{with_page};
+    ghost use Rattle.page_store.specs.Sizes.{sizes_of_memory};
     ghost use Rattle.page_plan.specs.Layout.{stored_sizes};
 
     /// The pages of the span, all of them zero, and 1 to 65,536 frames, of which none is in use. All memory is taken here.
@@ -139,6 +141,13 @@ impl Pages {
         ensures { IsCount (8 * length self.now.used) (λ unit. IsFreeBlock self.now.used (place_at order unit)) result }
     {
         self.blocks.free(order)
+    }
+
+    /// What the pages take at their plans, summed anew from how each is kept and from the sizes of its lines.
+    pub fn totals(&self) -> Totals
+        ensures { result ≡ sizes_of_memory self.now.codec self.now.lines }
+    {
+        total(self.blocks.descriptors(), &self.sizes)
     }
 
     /// The calls that were counted.

@@ -15,8 +15,8 @@ pub rewrite-requires-clause-sized : goal.rewrite-requires-clause-sized
 rewrite-requires-clause-sized c =
     let in_self = c.self.inside in
     let within : c.args.line.0 < length in_self.lines.items = rw (← c.self.view_is) at c.requires in
-    let whole : length in_self.lines.items ≡ 64 * length in_self.blocks.descriptors = c.self.invariant.sound.whole in
-    let counted : length in_self.sizes.items ≡ length in_self.blocks.descriptors = c.self.invariant.counted in
+    let whole = c.self.invariant.sound.whole in
+    let counted = c.self.invariant.counted in
     let inside : c.args.line.0 / 64 < length in_self.sizes.items = omega arith in
     rw (← c.self.view_is, c.page_with-page.ensures, c.deref.ensures.value, c.stored_size.ensures)
     (changed_sizes in_self.codec in_self.lines.items c.args.line.0 c.args.from.now in_self.sizes.items c.index.result.now c.self.invariant.sized inside c.index.ensures)
