@@ -12,15 +12,16 @@ use Rattle.hier_types.specs.declared.faults.NoSpace.{NoSpace}
 use Rattle.hier_types.specs.declared.settings.Codec.{Codec}
 use Rattle.page_plan.specs.declared.least.PagePlan.{PagePlan}
 use Rattle.page_plan.specs.declared.least.PagePlan.TheVariants as plan
-use Rattle.page_plan.specs.PagePlan.{plan_of}
+use Rattle.page_plan.specs.PagePlan.{IsPlan, plan_of}
+use Rattle.page_plan.proofs.PlanLemmas.{IsPlan-plan_of}
 use Rattle.page_store.specs.declared.desc.Desc.{Desc}
 use Rattle.page_store.specs.declared.desc.Desc.TheVariants.{Zero, Packed, Raw}
 use Rattle.page_store.specs.Pages.{page_of, plans_of}
-use Rattle.page_store.specs.Homes.{block_of, block_at, IsAtPlan, IsFreeFor, IsIn}
+use Rattle.page_store.specs.Homes.{order_of, block_of, block_at, IsAtPlan, IsFreeFor, IsIn}
 use Rattle.page_store.specs.Store.{Store, IsSound}
 use Rattle.page_store.specs.Crowds.{Crowded, Tight, share, share_of_order}
 use Rattle.page_store.proofs.BlockLemmas.{block_at-same, block_at-other, block_at-get}
-use Rattle.page_store.proofs.ListLemmas.{get-set_same, get-set_other, sum_by-map, sum_by-but_one}
+use Rattle.page_store.proofs.ListLemmas.{get-set_same, get-set_other, sum_by-but_one}
 use Rattle.page_store.proofs.PageLemmas.{length-plans_of, plans_of-get}
 use Rattle.page_store.proofs.CountLemmas.{holds, any_holds, weight, AreRuns, all_met}
 
@@ -88,20 +89,14 @@ place_number used k j known lt =
     (λ l. record { known = omega arith; aligned = omega arith; within = omega arith })
     lt
 
--- what the block of a page weighs
-abbrev weight_of : ℕ → Desc → ℕ
-weight_of k desc = weight k (block_of desc)
-
--- a block of order 3 meets as many places of an order as a frame has
-weight_most : (k : ℕ) (b : Option Place) → k ≤ 3 → ((block : Place) → b ≡ Some block → block.order ≤ 3) → weight k b ≤ 2 ^ (3 - k)
-weight_most k None known small = omega arith
-weight_most k (Some block) known small =
-    let least : block.order ≤ 3 = small block refl in
-    four (λ k. share_of_order k block.order ≤ 2 ^ (3 - k)) k known
-    (four (λ o. share_of_order 0 o ≤ 8) block.order least (omega arith) (omega arith) (omega arith) (omega arith))
-    (four (λ o. share_of_order 1 o ≤ 4) block.order least (omega arith) (omega arith) (omega arith) (omega arith))
-    (four (λ o. share_of_order 2 o ≤ 2) block.order least (omega arith) (omega arith) (omega arith) (omega arith))
-    (four (λ o. share_of_order 3 o ≤ 1) block.order least (omega arith) (omega arith) (omega arith) (omega arith))
+-- a block of order 3 or less meets at most as many places of an order as a frame has
+order_most : (k order : ℕ) → k ≤ 3 → order ≤ 3 → share_of_order k order ≤ 2 ^ (3 - k)
+order_most k order known least =
+    four (λ k. share_of_order k order ≤ 2 ^ (3 - k)) k known
+    (four (λ o. share_of_order 0 o ≤ 8) order least (omega arith) (omega arith) (omega arith) (omega arith))
+    (four (λ o. share_of_order 1 o ≤ 4) order least (omega arith) (omega arith) (omega arith) (omega arith))
+    (four (λ o. share_of_order 2 o ≤ 2) order least (omega arith) (omega arith) (omega arith) (omega arith))
+    (four (λ o. share_of_order 3 o ≤ 1) order least (omega arith) (omega arith) (omega arith) (omega arith))
 
 module _ (s : Store) (sound : IsSound s) where
   known_order : (page : ℕ) (block : Place) → block_at s.descriptors page ≡ Some block → block.order ≤ 3
@@ -167,17 +162,35 @@ module _ (s : Store) (sound : IsSound s) where
         let shares = shares_are k at_plan in
         omega (arith, met, shares)
 
-    -- and then its frames are fewer than its pages
-    pub tight_few : (k : ℕ) → k ≤ 3 → ((i : ℕ) (desc : Desc) → i ≢ page → slice_get s.descriptors i ≡ Some desc → IsAtPlan (plan_of s.codec (page_of s.lines i)) desc)
-        → Tight s.codec (length s.used) s.lines page k → length s.used < length s.descriptors
-    unfolding Tight
-    tight_few k known at_plan tight =
-        let bounded : sum_by (weight_of k) (set s.descriptors page Zero) + 2 ^ (3 - k) ≤ 2 ^ (3 - k) * length s.descriptors =
-        sum_by-but_one (weight_of k) (2 ^ (3 - k)) s.descriptors page Zero within refl (λ i desc e. weight_most k (block_of desc) known (λ block f. known_order i block (block_at-get s.descriptors i desc e ∙ f))) in
-        let shares = shares_are k at_plan in
-        let mapped : sum_by (weight k) (map block_of (set s.descriptors page Zero)) ≡ sum_by (weight_of k) (set s.descriptors page Zero) = sum_by-map (weight k) block_of (set s.descriptors page Zero) in
-        let some : 1 ≤ 2 ^ (3 - k) = some_units (3 - k) (omega arith) in
-        elim (cases_lt (length s.used) (length s.descriptors)) [
-          | inl lt ↦ lt
-          | inr le ↦ absurd (omega (arith, mul-le-mul_left (2 ^ (3 - k)) le, bounded, shares, mapped, tight, some))
-        ]
+-- the order of a plan is at most 3
+pub small_order : (codec : Codec) (lines : List (List ℕ)) (p : PagePlan) (order : ℕ) → IsPlan codec lines p → order_of p ≡ Some order → order ≤ 3
+small_order codec lines plan.Zero order is_plan e = absurd (none-some order e)
+small_order codec lines (plan.Packed k target exceptions) order is_plan e =
+    let same : k ≡ order = same_Some k order e in
+    let known : k ≤ 2 = is_plan.1.is_order.known in
+    omega arith
+small_order codec lines plan.Raw order is_plan e = let same : ◌≡◌ {A = ℕ} 3 order = same_Some 3 order e in omega arith
+
+-- a plan's share is at most the places of an order that a frame has
+share_most : (k : ℕ) (p : PagePlan) → k ≤ 3 → ((order : ℕ) → order_of p ≡ Some order → order ≤ 3) → share k p ≤ 2 ^ (3 - k)
+share_most k plan.Zero known small = omega arith
+share_most k (plan.Packed order target exceptions) known small = order_most k order known (small order refl)
+share_most k plan.Raw known small = order_most k 3 known (small 3 refl)
+
+-- where lines are tight, the frames are fewer than the pages
+pub tight_few : (codec : Codec) (frames : ℕ) (lines : List (List ℕ)) (page k : ℕ) → k ≤ 3 → page < length lines / 64 → Tight codec frames lines page k → frames < length lines / 64
+unfolding Tight
+tight_few codec frames lines page k known lt tight =
+    let plans = plans_of codec lines in
+    let counted = length-plans_of codec lines in
+    let bounded : sum_by (share k) (set plans page plan.Zero) + 2 ^ (3 - k) ≤ 2 ^ (3 - k) * length plans =
+    sum_by-but_one (share k) (2 ^ (3 - k)) plans page plan.Zero (omega arith) refl (λ i p e.
+    let within : i < length lines / 64 = omega (arith, slice_get_within plans i p e, counted) in
+    let is : plan_of codec (page_of lines i) ≡ p = same_Some (plan_of codec (page_of lines i)) p (sym (plans_of-get codec lines i within) ∙ e) in
+    let is_plan : IsPlan codec (page_of lines i) p = subst (IsPlan codec (page_of lines i)) is (IsPlan-plan_of codec (page_of lines i)) in
+    share_most k p known (λ order f. small_order codec (page_of lines i) p order is_plan f)) in
+    let some : 1 ≤ 2 ^ (3 - k) = some_units (3 - k) (omega arith) in
+    elim (cases_lt frames (length plans)) [
+      | inl fewer ↦ omega (arith, fewer, counted)
+      | inr le ↦ absurd (omega (arith, mul-le-mul_left (2 ^ (3 - k)) le, bounded, tight, some))
+    ]

@@ -29,19 +29,10 @@ use Rattle.page_store.specs.KeptSizes.{totals_kept}
 use Rattle.page_store.specs.Calls.{Refused, Rewrites}
 use Rattle.page_store.proofs.HomeLemmas.{kept_home, kept_units}
 use Rattle.page_store.proofs.BlockLemmas.{block_at-get, block_live}
-use Rattle.page_store.proofs.CrowdLemmas.{crowded_tight, tight_few}
+use Rattle.page_store.proofs.CrowdLemmas.{small_order, crowded_tight, tight_few}
 use Rattle.page_store.proofs.ListLemmas.{get-set_same, get-set_other}
 use Rattle.page_store.proofs.PageLemmas.{length-with_page, page_of-set, page_of-with, page_of-with_other, length-pages_of, pages_of-is}
 use Rattle.page_store.proofs.SizeLemmas.{totals_are}
-
--- the order of a plan is at most 3
-small_order : (codec : Codec) (lines : List (List ℕ)) (p : PagePlan) (order : ℕ) → IsPlan codec lines p → order_of p ≡ Some order → order ≤ 3
-small_order codec lines plan.Zero order is_plan e = absurd (none-some order e)
-small_order codec lines (plan.Packed k target exceptions) order is_plan e =
-    let same : k ≡ order = same_Some k order e in
-    let known : k ≤ 2 = is_plan.1.is_order.known in
-    omega arith
-small_order codec lines plan.Raw order is_plan e = let same : ◌≡◌ {A = ℕ} 3 order = same_Some 3 order e in omega arith
 
 module _ (s : Store) (sizes : List (List (Option ℕ))) (kept : IsKept s sizes) (page : ℕ) (within : page < length s.descriptors) where
   inside : 64 * page + 64 ≤ length s.lines
@@ -59,14 +50,17 @@ module _ (s : Store) (sizes : List (List (Option ℕ))) (kept : IsKept s sizes) 
 
     -- the relation of the call
     pub rewrites : (ds : List Desc) (used : List ℕ) (p : PagePlan) (t : Store) → p ≡ plan_of s.codec others → Settles s.descriptors s.used page p ds used
+        → length used ≡ length s.used
         → t ≡ record { codec = s.codec; lines = with_page s.lines page others; descriptors = ds; used = used; counts = s.counts; stops = s.stops }
         → Rewrites s page (with_page s.lines page others) s.counts t
-    rewrites ds used p t planned settles is = rw is (record {
+    rewrites ds used p t planned settles frames is = rw is (record {
       lines_are = refl;
       settles = subst (λ q. Settles s.descriptors s.used page q ds used) (planned ∙ ap (plan_of s.codec) (sym here)) settles;
       counts_are = refl;
-      codec_is = refl;
       stops_are = refl;
+      codec_is = refl;
+      frames_stay = frames;
+      pages_stay = ap length settles.descriptors_are ∙ length-set s.descriptors page settles.desc;
     })
 
     -- the store stays as it is to be kept
@@ -122,13 +116,15 @@ module _ (s : Store) (sizes : List (List (Option ℕ))) (kept : IsKept s sizes) 
         let known : order ≤ 3 = small_order s.codec others (plan_of s.codec others) order (IsPlan-plan_of s.codec others) (ap order_of (sym planned) ∙ lacks.order_is) in
         let at_plan : (i : ℕ) (desc : Desc) → i ≢ page → slice_get s.descriptors i ≡ Some desc → IsAtPlan (plan_of s.codec (page_of s.lines i)) desc = λ i desc ne e. kept.sound.at_plan i desc e in
         let tight = crowded_tight s kept.sound page within order known at_plan lacks.none in
+        let before : length s.lines ≡ 64 * length s.descriptors = kept.sound.whole in
+        let in_lines : page < length s.lines / 64 = omega arith in
         rw (unchanged, page_is, order_is) (record {
           page_is = refl;
           order_is = ap order_of plan_is ∙ lacks.order_is;
           outgrown = lacks.outgrown;
           crowded = record { at_plan = at_plan; none = lacks.none };
           tight = tight;
-          few = tight_few s kept.sound page within order known at_plan tight;
+          few = omega (arith, tight_few s.codec (length s.used) s.lines page order known in_lines tight, before);
           unchanged = refl;
         })
 
@@ -171,8 +167,10 @@ stays s page lines counts t sound within same is =
         used_is = kept_units s.used (block_at s.descriptors page) live ∙ ap (moved s.used (block_at s.descriptors page)) block_is;
       };
       counts_are = refl;
-      codec_is = refl;
       stops_are = refl;
+      codec_is = refl;
+      frames_stay = refl;
+      pages_stay = refl;
     })
 
 -- the lines of a page's bytes

@@ -23,8 +23,10 @@ pub record Rewrites (s : Store) (page : ℕ) (lines : List (List ℕ)) (counts :
   pub lines_are : t.lines ≡ lines
   pub settles : Settles s.descriptors s.used page (plan_of s.codec (page_of lines page)) t.descriptors t.used
   pub counts_are : t.counts ≡ counts
-  pub codec_is : t.codec ≡ s.codec
   pub stops_are : t.stops ≡ s.stops
+  pub codec_is : t.codec ≡ s.codec
+  pub frames_stay : length t.used ≡ length s.used
+  pub pages_stay : length t.descriptors ≡ length s.descriptors
 
 -- The store refuses these lines, which would be new in one page alone: they would need a block where the page has none or
 -- a smaller one, and the store is crowded. Nothing changes but the number of refusals.

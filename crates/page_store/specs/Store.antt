@@ -1,11 +1,12 @@
 -- A memory of pages in blocks, by what contracts see of it.
-use Rattle.std.specs.Prelude.{◌≡◌, ℕ, ◌*◌, ◌<◌, ◌≤◌, List, length, Option, Some, slice_get}
-use Rattle.hier_types.specs.Lines.{AreLines}
+use Rattle.std.specs.Prelude.{◌≡◌, ℕ, ◌*◌, ◌<◌, ◌≤◌, List, length, Option, Some, replicate, slice_get}
+use Rattle.hier_types.specs.Lines.{AreLines, zero_line}
 use Rattle.hier_types.specs.declared.counts.PageCounts.{PageCounts}
 use Rattle.hier_types.specs.declared.settings.Codec.{Codec}
 use Rattle.page_plan.specs.Layout.{stored_sizes}
 use Rattle.page_plan.specs.PagePlan.{plan_of}
 use Rattle.page_store.specs.declared.desc.Desc.{Desc}
+use Rattle.page_store.specs.declared.desc.Desc.TheVariants.{Zero}
 use Rattle.page_store.specs.Pages.{page_of}
 use Rattle.page_store.specs.Homes.{IsAtPlan, AreSound}
 
@@ -17,6 +18,21 @@ pub record Store : Type 0 where
   pub used : List ℕ
   pub counts : PageCounts
   pub stops : ℕ
+
+-- a store of so many pages, all of them zero, and so many frames, of which none is in use
+abbrev pub fresh : Codec → ℕ → ℕ → Store
+fresh codec pages frames = record {
+  codec = codec;
+  lines = replicate (64 * pages) zero_line;
+  descriptors = replicate pages Zero;
+  used = replicate frames 0;
+  counts = record { reads = 0; writes = 0; meta_hits = 0; meta_misses = 0; mover_turns = 0; tidy_turns = 0 };
+  stops = 0;
+}
+
+-- the store has the page, and it is zero
+abbrev pub HasZero : Store → ℕ → Type 0
+HasZero s page = slice_get s.descriptors page ≡ Some Zero
 
 -- the pages are 1 to 65,536 and whole, each is at the plan of its lines, and the blocks are sound
 pub record IsSound (s : Store) : Type 0 where

@@ -14,7 +14,7 @@ use std::marker::Model;
 use std::mem;
 
 /// How each page is kept, and the frames that have the blocks.
-#[derive(Debug, Drop)]
+#[derive(Drop)]
 pub(crate) struct Blocks {
     descriptors: Vec<Desc>,
     frames: Frames,

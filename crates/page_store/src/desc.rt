@@ -2,7 +2,7 @@
 use buddy_frames::Block;
 
 /// How a page is kept, with the block that it holds.
-#[derive(Debug, Drop)]
+#[derive(Drop)]
 pub(crate) enum Desc {
     /// All lines are zero, and there is no block.
     Zero,

@@ -9,7 +9,7 @@ use buddy_frames::{Block, Frames};
 use page_plan::PagePlan;
 
 /// A page that found no block of an order, as it was kept before and is kept still.
-#[derive(Debug, Drop)]
+#[derive(Drop)]
 pub(crate) struct Homeless {
     pub held: Desc,
     pub order: u8,

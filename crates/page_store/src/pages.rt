@@ -1,8 +1,7 @@
 // The memory as a layer.
-ghost use Rattle.std.specs.Prelude.{◌≡◌, ◌≤◌, ◌<◌, ◌*◌, ◌/◌, ℕ, length, replicate, Some, IfOk, slice_get, slice_set};
+ghost use Rattle.std.specs.Prelude.{◌≡◌, ◌≤◌, ◌<◌, ◌*◌, ◌/◌, ℕ, length, replicate, IfOk, slice_set};
 ghost use Rattle.buddy_frames.specs.Units.{place_at, IsFreeBlock, IsCount};
 ghost use Rattle.hier_types.specs.Lines.{AreLines, zero_line};
-ghost use Rattle.page_store.specs.declared.desc.Desc.TheVariants as desc;
 
 use crate::blocks::Blocks;
 use crate::page_lines::{lines_in, page_with, put_page};
@@ -59,7 +58,7 @@ fn same_sizes(alloc: Global, pages: u32, sizes: &[Option<u8>; 64]) -> Result<Vec
 }
 
 impl Pages {
-    ghost use Rattle.page_store.specs.Store.{IsSound};
+    ghost use Rattle.page_store.specs.Store.{IsSound, HasZero, fresh};
     ghost use Rattle.page_store.specs.Calls.{written_more, RewritesPage, PlacesPage};
     ghost use Rattle.page_store.specs.Pages.{with_page};
     ghost use Rattle.page_store.specs.Sizes.{sizes_of_memory};
@@ -71,7 +70,7 @@ impl Pages {
         requires most_pages { geometry.pages ≤ 65536 }
         requires some_frames { 1 ≤ frames }
         requires most_frames { frames ≤ 65536 }
-        ensures { IfOk result (λ made. made ≡ record { codec = codec; lines = replicate (64 * geometry.pages) zero_line; descriptors = replicate geometry.pages desc.Zero; used = replicate frames 0; counts = record { reads = 0; writes = 0; meta_hits = 0; meta_misses = 0; mover_turns = 0; tidy_turns = 0 }; stops = 0 }) }
+        ensures { IfOk result (λ made. made ≡ fresh codec geometry.pages frames) }
     {
         let pages = geometry.pages;
         let lines = zero_lines(alloc, PAGE_LINES * pages)?;
@@ -92,7 +91,7 @@ impl Pages {
     /// Lays a page that is zero at the plan of these bytes, which are new. It counts as no write. The refusal is that of a
     /// write.
     pub fn place_page(&mut self, page: PageNo, bytes: &[u8; 4096]) -> Result<(), NoSpace>
-        requires { slice_get self.old.descriptors page.0 ≡ Some desc.Zero }
+        requires { HasZero self.old page.0 }
         ensures { PlacesPage self.old page.0 bytes.now result self.new }
     {
         let lines = lines_in(bytes);
