@@ -1,11 +1,12 @@
 -- A store whose lines change in one page.
-use Rattle.std.proofs.Common.{◌≡◌, ◌≢◌, ◌<◌, ◌≤◌, ◌+◌, ◌-◌, ◌*◌, ◌/◌, ◌%◌, ◌∙◌, ℕ, Option, Some, None, List, [], ◌++◌, length, get_or, set, take, drop, replicate, slice_get, IfSome, refl, sym, ap, subst, inl, inr, arith}
+use Rattle.std.proofs.Common.{◌≡◌, ◌≢◌, ◌<◌, ◌≤◌, ◌+◌, ◌-◌, ◌*◌, ◌/◌, ◌%◌, ◌∙◌, ℕ, Option, Some, None, Ok, Err, List, [], ◌++◌, length, get_or, set, take, drop, replicate, slice_get, IfSome, refl, sym, ap, subst, inl, inr, arith}
 use Rattle.std.proofs.lemmas.Bool.{cases_eq}
 use Rattle.std.proofs.lemmas.List.{set-get_or, get_or_read, length-set, length-drop, length-replicate, length-take-le, map-set, drop-replicate, take-replicate, get_or-replicate}
 use Rattle.std.proofs.lemmas.List.Elements.{All-append, All-take, All-drop, All-replicate}
 use Rattle.std.proofs.lemmas.Option.{none-some, same_Some, slice_get_read, slice_get_within, slice_get-get_or, get_or_from_slice_get}
 use Rattle.buddy_frames.specs.Units.{IsUsedPlace}
 use Rattle.hier_types.specs.Lines.{AreLines, zero_line}
+use Rattle.hier_types.specs.Calls.{Answer}
 use Rattle.hier_types.specs.Causes.{raised}
 use Rattle.hier_types.specs.declared.counts.PageCounts.{PageCounts}
 use Rattle.hier_types.specs.declared.faults.NoSpace.{NoSpace}
@@ -22,11 +23,11 @@ use Rattle.page_store.specs.declared.desc.Desc.{Desc}
 use Rattle.page_store.specs.declared.desc.Desc.TheVariants.{Zero, Packed, Raw}
 use Rattle.page_store.specs.Pages.{page_of, with_page, lines_of}
 use Rattle.page_store.specs.Homes.{order_of, block_of, block_at, moved, IsHome, IsAtPlan, AreSound, Settles, LacksRoom}
-use Rattle.page_store.specs.Store.{Store, IsSound, AreSizes, IsKept}
+use Rattle.page_store.specs.Store.{Store, HasZero, IsSound, AreSizes, IsKept}
 use Rattle.page_store.specs.Crowds.{Crowded, Tight}
 use Rattle.page_store.specs.Sizes.{sizes_of_memory}
 use Rattle.page_store.specs.KeptSizes.{totals_kept}
-use Rattle.page_store.specs.Calls.{Refused, Rewrites}
+use Rattle.page_store.specs.Calls.{Refused, Rewrites, PlacesPage}
 use Rattle.page_store.proofs.HomeLemmas.{kept_home, kept_units}
 use Rattle.page_store.proofs.BlockLemmas.{block_at-get, block_live}
 use Rattle.page_store.proofs.CrowdLemmas.{small_order, crowded_tight, tight_few}
@@ -224,3 +225,9 @@ store_totals s sizes kept =
     (λ i page sized e f.
     let own = same_Some sized (stored_sizes s.codec (page_of s.lines i)) (sym f ∙ kept.sized i (slice_get_within sizes i sized f)) in
     own ∙ ap (stored_sizes s.codec) (pages_of-is s.lines i page e))
+
+-- a page that is placed leaves every other page that is zero
+pub placed_others : (s : Store) (page : ℕ) (bytes : List ℕ) (answer : Answer) (t : Store) (other : ℕ) → PlacesPage s page bytes answer t → other ≢ page → HasZero s other → HasZero t other
+placed_others s page bytes (Ok u) t other places ne zero =
+    ap (λ ds. slice_get ds other) places.settles.descriptors_are ∙ get-set_other s.descriptors page other places.settles.desc ne ∙ zero
+placed_others s page bytes (Err refusal) t other refused ne zero = rw refused.unchanged zero
