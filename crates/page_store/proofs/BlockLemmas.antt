@@ -1,9 +1,9 @@
 -- The blocks of all pages, before and after one of them moves.
-use Rattle.std.proofs.Common.{◌≡◌, ◌≢◌, ◌<◌, ◌≤◌, ◌+◌, ◌^◌, ◌∙◌, ◌⊎◌, ℕ, zero, suc, Some, None, Option, IfSome, IsSomeAnd, List, [], ◌∷◌, length, get_or, set, replicate, slice_get, inl, inr, refl, sym, ap, subst, arith}
+use Rattle.std.proofs.Common.{◌≡◌, ◌≢◌, ◌<◌, ◌∙◌, ℕ, zero, suc, Some, None, Option, IfSome, IsSomeAnd, List, [], ◌∷◌, length, get_or, set, replicate, slice_get, inl, inr, refl, sym, ap, subst, arith}
 use Rattle.std.proofs.lemmas.Bool.{cases_eq}
 use Rattle.std.proofs.lemmas.List.{set-set, set-get_or}
 use Rattle.std.proofs.lemmas.Option.{slice_get_read, get_or_from_slice_get, none-some}
-use Rattle.buddy_frames.specs.Units.{Place, place_at, past, in_use, IsUsedPlace, AreApart}
+use Rattle.buddy_frames.specs.Units.{Place, place_at, in_use, IsUsedPlace, AreApart}
 use Rattle.buddy_frames.proofs.MoveLemmas.{AreApart-swap}
 use Rattle.page_plan.specs.declared.least.PagePlan.{PagePlan}
 use Rattle.page_store.specs.declared.desc.Desc.{Desc}

@@ -1,14 +1,13 @@
 -- A crowded store is tight, and tight stores have fewer frames than pages.
-use Rattle.std.proofs.Common.{◌≡◌, ◌≢◌, ◌<◌, ◌≤◌, ◌+◌, ◌-◌, ◌*◌, ◌/◌, ◌%◌, ◌^◌, ◌⊎◌, ◌∙◌, leb, ltb, ◌&&◌, ◌||◌, ℕ, zero, suc, true, false, Option, Some, None, List, [], ◌∷◌, IfSome, length, set, map, slice_get, refl, sym, ap, subst, inl, inr, arith}
+use Rattle.std.proofs.Common.{◌≡◌, ◌≢◌, ◌<◌, ◌≤◌, ◌+◌, ◌-◌, ◌*◌, ◌/◌, ◌%◌, ◌^◌, ◌∙◌, leb, ltb, ℕ, zero, suc, true, false, Option, Some, None, List, [], ◌∷◌, IfSome, length, set, map, slice_get, refl, sym, ap, subst, inl, inr, arith}
 use Rattle.std.specs.List.{sum_by}
-use Rattle.std.proofs.lemmas.Bool.{cases_eq, cases_lt, cases_Bool, and_from, le-leb, lt-ltb, both_ways, or_left, or_right}
+use Rattle.std.proofs.lemmas.Bool.{cases_eq, cases_lt, and_from, le-leb, lt-ltb, both_ways, or_left, or_right}
 use Rattle.std.proofs.lemmas.List.{length-set}
 use Rattle.std.proofs.lemmas.List.Sums.{sum_by-cons}
 use Rattle.std.proofs.lemmas.Option.{slice_get_within, none-some, same_Some}
 use Rattle.std.proofs.Math.Nat.{mul-le-mul_left}
 use Rattle.buddy_frames.specs.Units.{Place, place_at, past, IsPlace, AreApart}
 use Rattle.buddy_frames.proofs.PlaceLemmas.{four, some_units}
-use Rattle.hier_types.specs.declared.faults.NoSpace.{NoSpace}
 use Rattle.hier_types.specs.declared.settings.Codec.{Codec}
 use Rattle.page_plan.specs.declared.least.PagePlan.{PagePlan}
 use Rattle.page_plan.specs.declared.least.PagePlan.TheVariants as plan
@@ -19,8 +18,8 @@ use Rattle.page_store.specs.declared.desc.Desc.TheVariants.{Zero, Packed, Raw}
 use Rattle.page_store.specs.Pages.{page_of, plans_of}
 use Rattle.page_store.specs.Homes.{order_of, block_of, block_at, IsAtPlan, IsFreeFor, IsIn}
 use Rattle.page_store.specs.Store.{Store, IsSound}
-use Rattle.page_store.specs.Crowds.{Crowded, Tight, share, share_of_order}
-use Rattle.page_store.proofs.BlockLemmas.{block_at-same, block_at-other, block_at-get}
+use Rattle.page_store.specs.Crowds.{Tight, share, share_of_order}
+use Rattle.page_store.proofs.BlockLemmas.{block_at-same, block_at-other}
 use Rattle.page_store.proofs.ListLemmas.{get-set_same, get-set_other, sum_by-but_one}
 use Rattle.page_store.proofs.PageLemmas.{length-plans_of, plans_of-get}
 use Rattle.page_store.proofs.CountLemmas.{holds, any_holds, weight, AreRuns, all_met}

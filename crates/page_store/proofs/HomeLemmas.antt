@@ -3,13 +3,13 @@ use Rattle.std.proofs.Common.{◌≡◌, ◌<◌, ◌≤◌, ◌+◌, ◌%◌, �
 use Rattle.std.specs.Int.{bit_at}
 use Rattle.std.proofs.lemmas.Bool.{cases_Bool, cases_lt, and_from, and_parts, ltb-true, leb-true, lt-ltb, le-leb, cond-true, cond-false, eqb-true, eq-eqb}
 use Rattle.std.proofs.lemmas.Nat.Bits.{bit_at-lt}
-use Rattle.buddy_frames.specs.Units.{Place, place_at, past, in_use, IsUsedPlace, IsChoice, HasNone, SetsUnits, Takes, AreApart, KeepsOthers, KeepsUsed, IsApart, StaysApart, taken, given, run_bits}
+use Rattle.buddy_frames.specs.Units.{Place, place_at, past, in_use, IsUsedPlace, IsChoice, HasNone, SetsUnits, Takes, KeepsOthers, KeepsUsed, IsApart, StaysApart, taken, given, run_bits}
 use Rattle.buddy_frames.specs.FrameByte.{all_below, run_is}
 use Rattle.buddy_frames.proofs.TableLemmas.{all_at, all_from, clears_byte}
 use Rattle.buddy_frames.proofs.PlaceLemmas.{byte_at, fits_frame, to_run}
 use Rattle.buddy_frames.proofs.MoveLemmas.{taken-given}
 use Rattle.page_store.specs.Homes.{IsHome, IsIn, moved}
-use Rattle.page_store.specs.Moves.{HasNoneBut, Moves, Houses}
+use Rattle.page_store.specs.Moves.{HasNoneBut, Houses}
 
 -- a unit in use after a place came into use
 set_owned : (before : List ℕ) (place : Place) (after : List ℕ) (unit : ℕ) → SetsUnits before place 1 after → in_use after unit ≡ 1
@@ -31,12 +31,13 @@ cleared_owned before place after unit sets busy =
           let free : in_use after unit ≡ 0 = sets.units unit ∙ cond-true (leb place.unit unit && ltb unit (past place)) 0 (in_use before unit) e in
           absurd (omega arith)
       | inr e ↦ (
-          sym (cond-false (leb place.unit unit && ltb unit (past place)) 0 (in_use before unit) e) ∙ sym (sets.units unit) ∙ busy,
-          λ inside.
-              let both : (leb place.unit unit && ltb unit (past place)) ≡ true =
-              and_from (leb place.unit unit) (ltb unit (past place)) (le-leb place.unit unit inside.0) (lt-ltb unit (past place) inside.1) in
-              let none : false ≡ true = sym e ∙ both in
-              cc)
+        sym (cond-false (leb place.unit unit && ltb unit (past place)) 0 (in_use before unit) e) ∙ sym (sets.units unit) ∙ busy,
+        λ inside.
+            let both : (leb place.unit unit && ltb unit (past place)) ≡ true =
+            and_from (leb place.unit unit) (ltb unit (past place)) (le-leb place.unit unit inside.0) (lt-ltb unit (past place) inside.1) in
+            let none : false ≡ true = sym e ∙ both in
+            cc,
+      )
     ]
 
 -- both, one after the other

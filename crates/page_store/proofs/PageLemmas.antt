@@ -1,5 +1,5 @@
 -- The lines of one page among those of all.
-use Rattle.std.proofs.Common.{◌≡◌, ◌≢◌, ◌<◌, ◌≤◌, ◌+◌, ◌-◌, ◌*◌, ◌/◌, ◌%◌, ◌∙◌, ℕ, Some, option_map, List, [], ◌∷◌, ◌++◌, length, set, take, drop, slice_get, inl, inr, refl, sym, ap, subst, arith, append_assoc, length-append, length-take, length-drop}
+use Rattle.std.proofs.Common.{◌≡◌, ◌≢◌, ◌<◌, ◌≤◌, ◌+◌, ◌-◌, ◌*◌, ◌/◌, ◌%◌, ◌∙◌, ℕ, Some, option_map, List, [], ◌++◌, length, set, take, drop, slice_get, inl, inr, sym, ap, arith, append_assoc, length-append, length-drop}
 use Rattle.std.proofs.Math.Seq.{take-set-lt}
 use Rattle.std.proofs.lemmas.Bool.{cases_lt}
 use Rattle.std.proofs.lemmas.List.{take-append-drop, take_at, drop_at, take-append-le, drop-append-le, take-take, drop-take, take-set-le, drop-set-lt, drop-set-add, drop-drop, length-map, length-take-le}

@@ -1,9 +1,8 @@
 -- What the pages take by how they are kept is what their lines say.
-use Rattle.std.proofs.Common.{◌≡◌, ◌≤◌, ◌+◌, ◌*◌, ◌==◌, ◌∙◌, cond, ℕ, zero, suc, Bool, Option, Some, None, List, [], ◌∷◌, length, map, slice_get, refl, sym, ap, arith}
+use Rattle.std.proofs.Common.{◌≡◌, ◌≤◌, ◌+◌, ◌*◌, ◌==◌, ◌∙◌, cond, ℕ, suc, Bool, Option, Some, List, [], ◌∷◌, length, map, slice_get, refl, sym, ap, arith}
 use Rattle.std.specs.List.{sum_by, count_by}
 use Rattle.std.proofs.lemmas.List.Sums.{sum_by-cons}
 use Rattle.buddy_frames.proofs.PlaceLemmas.{four}
-use Rattle.hier_types.specs.declared.counts.Totals.{Totals}
 use Rattle.hier_types.specs.declared.settings.Codec.{Codec}
 use Rattle.page_plan.specs.declared.least.PagePlan.{PagePlan}
 use Rattle.page_plan.specs.declared.least.PagePlan.TheVariants as plan
@@ -76,8 +75,8 @@ block_class codec page plan.Zero is = refl
 block_class codec page (plan.Packed k target exceptions) is =
     let known : k ≤ 2 = is.1.is_order.known in
     four (λ (k : ℕ). block_bytes (plan.Packed k target exceptions)
-        ≡ by_class (one_if (has_order 0) (plan.Packed k target exceptions)) (one_if (has_order 1) (plan.Packed k target exceptions))
-            (one_if (has_order 2) (plan.Packed k target exceptions)) (one_if (has_order 3) (plan.Packed k target exceptions)))
+    ≡ by_class (one_if (has_order 0) (plan.Packed k target exceptions)) (one_if (has_order 1) (plan.Packed k target exceptions))
+    (one_if (has_order 2) (plan.Packed k target exceptions)) (one_if (has_order 3) (plan.Packed k target exceptions)))
     k (omega arith) refl refl refl refl
 block_class codec page plan.Raw is = refl
 
@@ -135,16 +134,24 @@ kept_same codec f g (page ∷ pages) (d ∷ ds) (s ∷ sizes) kept each =
 -- the bytes of all blocks, by their classes
 classes_sum : (codec : Codec) (pages : List (List (List ℕ)))
     → sum_by block_bytes (map (plan_of codec) pages)
-        ≡ by_class (count_by (has_order 0) (map (plan_of codec) pages)) (count_by (has_order 1) (map (plan_of codec) pages))
-            (count_by (has_order 2) (map (plan_of codec) pages)) (count_by (has_order 3) (map (plan_of codec) pages))
+    ≡ by_class (count_by (has_order 0) (map (plan_of codec) pages)) (count_by (has_order 1) (map (plan_of codec) pages))
+    (count_by (has_order 2) (map (plan_of codec) pages)) (count_by (has_order 3) (map (plan_of codec) pages))
 classes_sum codec [] = refl
 classes_sum codec (page ∷ pages) =
     let p = plan_of codec page in
     let plans = map (plan_of codec) pages in
     let first = block_class codec page p (IsPlan-plan_of codec page) in
     let rest = classes_sum codec pages in
-    omega (arith, first, rest, sum_by-cons block_bytes p plans, sum_by-cons (one_if (has_order 0)) p plans, sum_by-cons (one_if (has_order 1)) p plans,
-      sum_by-cons (one_if (has_order 2)) p plans, sum_by-cons (one_if (has_order 3)) p plans)
+    omega (
+      arith,
+      first,
+      rest,
+      sum_by-cons block_bytes p plans,
+      sum_by-cons (one_if (has_order 0)) p plans,
+      sum_by-cons (one_if (has_order 1)) p plans,
+      sum_by-cons (one_if (has_order 2)) p plans,
+      sum_by-cons (one_if (has_order 3)) p plans,
+    )
 
 -- the totals
 pub totals_are : (codec : Codec) (lines : List (List ℕ)) (ds : List Desc) (sizes : List (List (Option ℕ))) → length ds ≡ length (pages_of lines) → length sizes ≡ length (pages_of lines)

@@ -1,9 +1,9 @@
 -- A store whose lines change in one page.
-use Rattle.std.proofs.Common.{◌≡◌, ◌≢◌, ◌<◌, ◌≤◌, ◌+◌, ◌-◌, ◌*◌, ◌/◌, ◌%◌, ◌∙◌, ℕ, Option, Some, None, Ok, Err, List, [], ◌++◌, length, get_or, set, take, drop, replicate, slice_get, IfSome, refl, sym, ap, subst, inl, inr, arith}
+use Rattle.std.proofs.Common.{◌≡◌, ◌≢◌, ◌<◌, ◌≤◌, ◌+◌, ◌-◌, ◌*◌, ◌/◌, ◌%◌, ◌∙◌, ℕ, Option, Some, Ok, Err, List, [], ◌++◌, length, get_or, set, take, drop, replicate, slice_get, IfSome, refl, sym, ap, subst, inl, inr, arith}
 use Rattle.std.proofs.lemmas.Bool.{cases_eq}
 use Rattle.std.proofs.lemmas.List.{set-get_or, get_or_read, length-set, length-drop, length-replicate, length-take-le, map-set, drop-replicate, take-replicate, get_or-replicate}
 use Rattle.std.proofs.lemmas.List.Elements.{All-append, All-take, All-drop, All-replicate}
-use Rattle.std.proofs.lemmas.Option.{none-some, same_Some, slice_get_read, slice_get_within, slice_get-get_or, get_or_from_slice_get}
+use Rattle.std.proofs.lemmas.Option.{same_Some, slice_get_read, slice_get_within, slice_get-get_or, get_or_from_slice_get}
 use Rattle.buddy_frames.specs.Units.{IsUsedPlace}
 use Rattle.hier_types.specs.Lines.{AreLines, zero_line}
 use Rattle.hier_types.specs.Calls.{Answer}
@@ -17,14 +17,13 @@ use Rattle.line_codec.specs.Slots.{stored}
 use Rattle.page_plan.specs.declared.least.PagePlan.{PagePlan}
 use Rattle.page_plan.specs.declared.least.PagePlan.TheVariants as plan
 use Rattle.page_plan.specs.Layout.{stored_sizes}
-use Rattle.page_plan.specs.PagePlan.{IsPlan, plan_of}
+use Rattle.page_plan.specs.PagePlan.{plan_of}
 use Rattle.page_plan.proofs.PlanLemmas.{IsPlan-plan_of, only_plan}
 use Rattle.page_store.specs.declared.desc.Desc.{Desc}
-use Rattle.page_store.specs.declared.desc.Desc.TheVariants.{Zero, Packed, Raw}
+use Rattle.page_store.specs.declared.desc.Desc.TheVariants.{Zero}
 use Rattle.page_store.specs.Pages.{page_of, with_page, lines_of}
 use Rattle.page_store.specs.Homes.{order_of, block_of, block_at, moved, IsHome, IsAtPlan, AreSound, Settles, LacksRoom}
 use Rattle.page_store.specs.Store.{Store, HasZero, IsSound, AreSizes, IsKept}
-use Rattle.page_store.specs.Crowds.{Crowded, Tight}
 use Rattle.page_store.specs.Sizes.{sizes_of_memory}
 use Rattle.page_store.specs.KeptSizes.{totals_kept}
 use Rattle.page_store.specs.Calls.{Refused, Rewrites, PlacesPage}
@@ -191,7 +190,7 @@ zero_plan codec = only_plan codec (replicate 64 zero_line) plan.Zero (All-replic
 -- the store at its start
 pub kept_fresh : (codec : Codec) (pages : ℕ) (used : List ℕ) (counts : PageCounts) → 1 ≤ pages → pages ≤ 65536 → AreSound (replicate pages Zero) used
     → IsKept (record { codec = codec; lines = replicate (64 * pages) zero_line; descriptors = replicate pages Zero; used = used; counts = counts; stops = 0 })
-        (replicate pages (stored_sizes codec (replicate 64 zero_line)))
+    (replicate pages (stored_sizes codec (replicate 64 zero_line)))
 kept_fresh codec pages used counts some most sound =
     let counted : length (replicate pages Zero) ≡ pages = length-replicate pages Zero in
     record {

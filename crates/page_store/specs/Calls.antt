@@ -1,5 +1,5 @@
 -- What the calls of a store do.
-use Rattle.std.specs.Prelude.{◌≡◌, ℕ, ◌<◌, ◌/◌, List, length, Option, Some, Result, Ok, Err, IfSome, slice_get, slice_set}
+use Rattle.std.specs.Prelude.{◌≡◌, ℕ, ◌<◌, ◌/◌, List, length, Some, Result, Ok, Err, slice_get, slice_set}
 use Rattle.hier_types.specs.Calls.{Answer}
 use Rattle.hier_types.specs.Causes.{raised}
 use Rattle.hier_types.specs.declared.counts.PageCounts.{PageCounts}

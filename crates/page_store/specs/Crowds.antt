@@ -1,5 +1,5 @@
 -- When a store has no room for a page.
-use Rattle.std.specs.Prelude.{◌≡◌, ◌≢◌, ℕ, ◌-◌, ◌*◌, ◌^◌, ◌≤◌, List, length, Some, if◌then◌else◌, nat_le, slice_get, slice_set}
+use Rattle.std.specs.Prelude.{◌≡◌, ◌≢◌, ℕ, ◌-◌, ◌*◌, ◌^◌, ◌≤◌, List, Some, if◌then◌else◌, nat_le, slice_get, slice_set}
 use Rattle.std.specs.List.{sum_by}
 use Rattle.buddy_frames.specs.Units.{place_at}
 use Rattle.hier_types.specs.declared.faults.NoSpace.{NoSpace}

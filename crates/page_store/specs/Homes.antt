@@ -1,6 +1,6 @@
 -- The blocks that pages have in the frames.
-use Rattle.std.specs.Prelude.{◌≡◌, ◌≢◌, ℕ, ◌<◌, ◌≤◌, ◌⊎◌, List, length, Option, Some, None, IfSome, slice_get, slice_set}
-use Rattle.std.specs.Option.{option_and_then, option_map_or}
+use Rattle.std.specs.Prelude.{◌≡◌, ◌≢◌, ℕ, ◌<◌, ◌≤◌, List, Option, Some, None, IfSome, slice_get, slice_set}
+use Rattle.std.specs.Option.{option_and_then}
 use Rattle.buddy_frames.specs.Units.{Place, place_at, past, in_use, IsPlace, IsUsedPlace, IsChoice, AreApart, taken, given}
 use Rattle.page_plan.specs.declared.least.PagePlan.{PagePlan}
 use Rattle.page_plan.specs.declared.least.PagePlan.TheVariants as plan

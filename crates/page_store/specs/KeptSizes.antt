@@ -1,7 +1,6 @@
 -- What pages take, by how they are kept and the sizes that stand beside them.
 use Rattle.std.specs.Prelude.{ℕ, ◌+◌, ◌*◌, ◌==◌, Bool, true, false, List, [], ◌∷◌, Option, count_by}
 use Rattle.std.specs.List.{sum_by}
-use Rattle.buddy_frames.specs.Units.{Place}
 use Rattle.hier_types.specs.declared.counts.Totals.{Totals}
 use Rattle.page_plan.specs.Layout.{exceptions_of}
 use Rattle.page_store.specs.declared.desc.Desc.{Desc}

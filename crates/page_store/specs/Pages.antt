@@ -1,5 +1,5 @@
 -- The pages of a memory: 64 lines each, one page after another.
-use Rattle.std.specs.Prelude.{◌≡◌, ℕ, ◌+◌, ◌*◌, ◌/◌, List, ◌++◌, take, drop, length, map, Option, Some}
+use Rattle.std.specs.Prelude.{ℕ, ◌+◌, ◌*◌, ◌/◌, List, ◌++◌, take, drop, length, map}
 use Rattle.hier_types.specs.Tabulate.{tabulate}
 use Rattle.hier_types.specs.declared.settings.Codec.{Codec}
 use Rattle.page_plan.specs.declared.least.PagePlan.{PagePlan}

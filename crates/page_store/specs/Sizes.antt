@@ -1,5 +1,5 @@
 -- What the pages of a memory take at their plans.
-use Rattle.std.specs.Prelude.{ℕ, ◌+◌, ◌*◌, ◌^◌, ◌==◌, Bool, true, false, List, Option, Some, None, count_by, if◌then◌else◌, unwrap_or}
+use Rattle.std.specs.Prelude.{ℕ, ◌*◌, ◌^◌, ◌==◌, Bool, true, false, List, Option, count_by, if◌then◌else◌, unwrap_or}
 use Rattle.std.specs.List.{sum_by}
 use Rattle.std.specs.Option.{option_map_or}
 use Rattle.hier_types.specs.declared.counts.Totals.{Totals}

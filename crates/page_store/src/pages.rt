@@ -5,8 +5,10 @@ ghost use Rattle.hier_types.specs.Lines.{AreLines, zero_line};
 
 use crate::blocks::Blocks;
 use crate::page_lines::{lines_in, page_with, put_page};
-use hier_types::{Codec, Geometry, Layer, Line, LineNo, NoMemory, NoSpace, PAGE_LINES, PageCounts, PageNo, Totals};
 use crate::totals::total;
+use hier_types::{
+    Codec, Geometry, Layer, Line, LineNo, NoMemory, NoSpace, PAGE_LINES, PageCounts, PageNo, Totals,
+};
 use line_codec::stored_size;
 use page_plan::{plan_with, sizes_of};
 use std::alloc::Global;
@@ -47,7 +49,11 @@ fn zero_lines(alloc: Global, lines: u32) -> Result<Vec<Line>, NoMemory>
 }
 
 /// The sizes of so many pages of the same sizes.
-fn same_sizes(alloc: Global, pages: u32, sizes: &[Option<u8>; 64]) -> Result<Vec<[Option<u8>; 64]>, NoMemory>
+fn same_sizes(
+    alloc: Global,
+    pages: u32,
+    sizes: &[Option<u8>; 64],
+) -> Result<Vec<[Option<u8>; 64]>, NoMemory>
     ensures { IfOk result (λ made. made.items ≡ replicate pages sizes.now) }
 {
     let mut made = Vec::with_capacity(alloc, pages as usize)?;
@@ -65,7 +71,12 @@ impl Pages {
     ghost use Rattle.page_plan.specs.Layout.{stored_sizes};
 
     /// The pages of the span, all of them zero, and 1 to 65,536 frames, of which none is in use. All memory is taken here.
-    pub fn new(alloc: Global, geometry: Geometry, frames: u32, codec: Codec) -> Result<Pages, NoMemory>
+    pub fn new(
+        alloc: Global,
+        geometry: Geometry,
+        frames: u32,
+        codec: Codec,
+    ) -> Result<Pages, NoMemory>
         requires some_pages { 1 ≤ geometry.pages }
         requires most_pages { geometry.pages ≤ 65536 }
         requires some_frames { 1 ≤ frames }
@@ -100,7 +111,12 @@ impl Pages {
     }
 
     /// Changes the lines of one page for others of these sizes, and brings the page to its new plan.
-    fn rewrite(&mut self, page: PageNo, lines: &[Line; 64], sizes: &[Option<u8>; 64]) -> Result<(), NoSpace>
+    fn rewrite(
+        &mut self,
+        page: PageNo,
+        lines: &[Line; 64],
+        sizes: &[Option<u8>; 64],
+    ) -> Result<(), NoSpace>
         requires inside { page.0 < length self.old.descriptors }
         requires whole { AreLines lines.now }
         requires sized { stored_sizes self.old.codec lines.now ≡ sizes.now }

@@ -42,10 +42,7 @@ fn pages_of(descriptors: &[Desc], order: u8) -> u32
     ensures value { result ≡ count_by (has_block order) descriptors.now }
     ensures most { result ≤ 65536 }
 {
-    descriptors
-        .iter()
-        .filter(|desc| is_of(desc, order))
-        .count() as u32
+    descriptors.iter().filter(|desc| is_of(desc, order)).count() as u32
 }
 
 /// The lines of a page that its slots do not hold.

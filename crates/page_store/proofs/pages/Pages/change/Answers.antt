@@ -1,4 +1,4 @@
-use Rattle.std.proofs.Common.{◌≡◌, ◌<◌, ◌*◌, ◌/◌, ◌∙◌, List, ℕ, ap, length, set, subst, arith}
+use Rattle.std.proofs.Common.{◌≡◌, ◌<◌, ◌/◌, ◌∙◌, List, ℕ, ap, length, set, subst, arith}
 use Rattle.page_store.specs.Pages.{page_of, with_page}
 use Rattle.page_store.specs.Store.{Store}
 use Rattle.page_store.specs.Calls.{RewritesPage}

@@ -1,4 +1,4 @@
-use Rattle.std.proofs.Common.{◌≡◌, ◌+◌, ◌<◌, ◌^◌, min, length, sym, ap, refl, arith}
+use Rattle.std.proofs.Common.{◌≡◌, ◌<◌, length, refl, arith}
 use Rattle.std.proofs.lemmas.Grind.{common_steps}
 use Rattle.hier_types.specs.Causes.{raised}
 use Rattle.page_plan.specs.Layout.{stored_sizes}
@@ -14,7 +14,7 @@ returns-in-Err c =
     let sized : stored_sizes in_self.codec c.args.lines.now ≡ c.args.sizes.now = rw (← c.self.view_is) at c.requires.sized in
     let counted : c.saturating_add-self-inside.result ≡ raised in_self.stops = grind (arith, common_steps) in
     rw (← c.self.view_is) (refuses s in_self.sizes.items c.self.invariant c.args.page.0 within c.args.lines.now c.told-lines c.requires.whole c.in-Err.order c.plan_with.result _ _
-        (c.plan_with.ensures in_self.codec sized) c.in-Err.ensures.err refl refl (rw (c.in-Err.ensures.unchanged, counted) refl))
+    (c.plan_with.ensures in_self.codec sized) c.in-Err.ensures.err refl refl (rw (c.in-Err.ensures.unchanged, counted) refl))
 
 pub invariant_of-self-2 : goal.invariant_of-self-2
 invariant_of-self-2 c =
@@ -23,7 +23,7 @@ invariant_of-self-2 c =
     let within : c.args.page.0 < length in_self.blocks.descriptors = rw (← c.self.view_is) at c.requires.inside in
     let sized : stored_sizes in_self.codec c.args.lines.now ≡ c.args.sizes.now = rw (← c.self.view_is) at c.requires.sized in
     rw c.put_page.ensures (kept_after s in_self.sizes.items c.self.invariant c.args.page.0 within c.args.lines.now c.told-lines c.requires.whole c.args.sizes.now
-        c.settle.new.self.descriptors c.settle.new.self.used c.plan_with.result sized (c.plan_with.ensures in_self.codec sized) c.in_default.ensures.ok c.in_default.ensures.sound)
+    c.settle.new.self.descriptors c.settle.new.self.used c.plan_with.result sized (c.plan_with.ensures in_self.codec sized) c.in_default.ensures.ok c.in_default.ensures.sound)
 
 pub returns : goal.returns
 returns c =
@@ -32,4 +32,4 @@ returns c =
     let within : c.args.page.0 < length in_self.blocks.descriptors = rw (← c.self.view_is) at c.requires.inside in
     let sized : stored_sizes in_self.codec c.args.lines.now ≡ c.args.sizes.now = rw (← c.self.view_is) at c.requires.sized in
     rw (← c.self.view_is) (rewrites s in_self.sizes.items c.self.invariant c.args.page.0 within c.args.lines.now c.told-lines c.requires.whole c.settle.new.self.descriptors c.settle.new.self.used
-        c.plan_with.result _ (c.plan_with.ensures in_self.codec sized) c.in_default.ensures.ok c.in_default.ensures.frames (rw c.put_page.ensures refl))
+    c.plan_with.result _ (c.plan_with.ensures in_self.codec sized) c.in_default.ensures.ok c.in_default.ensures.frames (rw c.put_page.ensures refl))

@@ -1,6 +1,4 @@
-use Rattle.std.proofs.Common.{◌≡◌, ◌∙◌, ap}
 use Rattle.page_store.specs.Store.{Store}
-use Rattle.page_store.specs.KeptSizes.{totals_kept}
 use Rattle.page_store.proofs.StoreLemmas.{store_totals}
 use Rattle.page_store.proofs.pages.Pages.totals.Goals as goal
 

@@ -1,4 +1,4 @@
-use Rattle.std.proofs.Common.{◌≡◌, ◌<◌, ◌*◌, ◌/◌, ◌∙◌, List, ℕ, length, set, sym, refl, ap, arith}
+use Rattle.std.proofs.Common.{◌≡◌, ◌<◌, ◌*◌, ◌/◌, ◌∙◌, length, set, sym, ap, arith}
 use Rattle.std.proofs.lemmas.Slice.Eq.{bytes_eq-Decides}
 use Rattle.page_store.specs.Store.{Store}
 use Rattle.page_store.specs.Calls.{written_more}
@@ -22,4 +22,4 @@ returns-then-eq-clause-did c =
     let within : c.args.line.0 < length in_self.lines.items = rw (← c.self.view_is) at c.requires in
     let whole : length in_self.lines.items ≡ 64 * length in_self.blocks.descriptors = c.self.invariant.sound.whole in
     rw (← c.self.view_is) (stays s (c.args.line.0 / 64) (set in_self.lines.items c.args.line.0 c.args.from.now) (written_more in_self.counts) c.count_write.new.self c.self.invariant.sound (omega arith)
-        (unchanged c) (c.count_write.ensures ∙ ap (λ (u : Store). record u { counts = written_more u.counts }) (sym c.self.view_is)))
+    (unchanged c) (c.count_write.ensures ∙ ap (λ (u : Store). record u { counts = written_more u.counts }) (sym c.self.view_is)))
