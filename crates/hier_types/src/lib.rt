@@ -5,6 +5,7 @@
 #![tactic(auto)]
 
 mod beats;
+mod counts;
 mod faults;
 mod geometry;
 mod layer;
@@ -19,6 +20,7 @@ mod tests;
 mod units;
 
 pub use beats::{Beat, BeatWord};
+pub use counts::{PageCounts, Totals};
 pub use faults::{Failed, NoMemory, NoSpace, ShelfFault};
 pub use geometry::Geometry;
 pub use layer::Layer;

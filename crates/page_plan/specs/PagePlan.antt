@@ -68,3 +68,7 @@ lesser Raw other = other
 -- the plan of a page, computed: the only one
 unfoldable pub plan_of : Codec → List (List ℕ) → PagePlan
 plan_of codec lines = if is_zero_page lines then Zero else fold lesser Raw (map (layout_with (stored_sizes codec lines)) targets)
+
+-- the plan of every page that has these stored sizes and is not zero
+abbrev pub IsPlanOfSizes : List (Option ℕ) → PagePlan → Type 0
+IsPlanOfSizes sizes plan = (codec : Codec) (lines : List (List ℕ)) → ¬ IsZeroPage lines → stored_sizes codec lines ≡ sizes → plan ≡ plan_of codec lines

@@ -14,9 +14,9 @@ fn overflows(size: Option<u8>, target: u8) -> bool
     }
 }
 
-// The lines that a slot of `target` bytes does not hold.
+/// How many of a page's lines a slot of `target` bytes does not hold, by what they take in a slot.
 #[tactic(auto, unfolding(crate::specs::Layout::exceptions_of))]
-pub(crate) fn exceptions(sizes: &[Option<u8>; 64], target: u8) -> u8
+pub fn exceptions(sizes: &[Option<u8>; 64], target: u8) -> u8
     ensures value { result ≡ exceptions_of sizes.now target }
     ensures high { result ≤ 64 }
 {

@@ -1,6 +1,7 @@
 ghost use Rattle.std.specs.Prelude.{◌≡◌, ℕ, ◌+◌, ◌≤◌, IsTrue, ◌↔◌};
+ghost use Rattle.hier_types.specs.declared.settings.Codec.{Codec as AnyCodec};
 ghost use Rattle.page_plan.specs.Layout.{IsTarget, stored_sizes};
-ghost use Rattle.page_plan.specs.PagePlan.{IsZeroPage, IsLeastBelow, IsPlan, IsInRange, plan_of};
+ghost use Rattle.page_plan.specs.PagePlan.{IsZeroPage, IsLeastBelow, IsPlan, IsPlanOfSizes, IsInRange, plan_of};
 
 use crate::layout::{TARGETS, exceptions, order_for};
 use hier_types::{Codec, Line};
@@ -24,8 +25,8 @@ pub enum PagePlan {
     Raw,
 }
 
-// What each line takes in a slot, which is asked once.
-fn sizes_of(codec: Codec, page: &[Line; 64]) -> [Option<u8>; 64]
+/// What each line of a page takes in a slot: None where it has no stored size.
+pub fn sizes_of(codec: Codec, page: &[Line; 64]) -> [Option<u8>; 64]
     ensures { result ≡ stored_sizes codec page.now }
 {
     let mut sizes = [None; 64];
@@ -80,10 +81,28 @@ pub fn plan(codec: Codec, page: &[Line; 64]) -> PagePlan
     if is_zero(page) {
         return PagePlan::Zero;
     }
-    let sizes = sizes_of(codec, page);
+    plan_of_sizes(&sizes_of(codec, page))
+}
+
+/// The plan of a page whose lines take these bytes in a slot. It asks no codec, so a memory that keeps the sizes plans a
+/// page anew at the price of one line's size.
+pub fn plan_with(page: &[Line; 64], sizes: &[Option<u8>; 64]) -> PagePlan
+    ensures { (codec : AnyCodec) → stored_sizes codec page.now ≡ sizes.now → result ≡ plan_of codec page.now }
+{
+    if is_zero(page) {
+        return PagePlan::Zero;
+    }
+    plan_of_sizes(sizes)
+}
+
+// The plan of a page that is not zero.
+fn plan_of_sizes(sizes: &[Option<u8>; 64]) -> PagePlan
+    ensures least { IsLeastBelow 32 sizes.now result }
+    ensures plan { IsPlanOfSizes sizes.now result }
+{
     let mut plan = PagePlan::Raw;
     for target in TARGETS {
-        plan = better(&sizes, plan, target);
+        plan = better(sizes, plan, target);
     }
     plan
 }

@@ -1,0 +1,32 @@
+-- When a store has no room for a page.
+use Rattle.std.specs.Prelude.{◌≡◌, ◌≢◌, ℕ, ◌-◌, ◌*◌, ◌^◌, ◌≤◌, List, Some, if◌then◌else◌, nat_le, slice_get, slice_set}
+use Rattle.std.specs.List.{sum_by}
+use Rattle.buddy_frames.specs.Units.{place_at}
+use Rattle.hier_types.specs.declared.faults.NoSpace.{NoSpace}
+use Rattle.hier_types.specs.declared.settings.Codec.{Codec}
+use Rattle.page_plan.specs.declared.least.PagePlan.{PagePlan}
+use Rattle.page_plan.specs.declared.least.PagePlan.TheVariants.{Zero, Packed, Raw}
+use Rattle.page_plan.specs.PagePlan.{plan_of}
+use Rattle.page_store.specs.declared.desc.Desc.{Desc}
+use Rattle.page_store.specs.Pages.{page_of, plans_of}
+use Rattle.page_store.specs.Homes.{IsAtPlan, IsFreeFor}
+use Rattle.page_store.specs.Store.{Store}
+
+-- every page but the refused one is at its plan, and no place of the order is free for that one
+pub record Crowded (s : Store) (refusal : NoSpace) : Type 0 where
+  pub at_plan : (page : ℕ) (desc : Desc) → page ≢ refusal.page.0 → slice_get s.descriptors page ≡ Some desc
+      → IsAtPlan (plan_of s.codec (page_of s.lines page)) desc
+  pub none : (unit : ℕ) → IsFreeFor s.descriptors s.used refusal.page.0 (place_at refusal.order unit) → ⊥
+
+-- at most so many places of order k does the block of a plan meet
+abbrev pub share_of_order : ℕ → ℕ → ℕ
+share_of_order k order = if nat_le order k then 1 else 2 ^ (order - k)
+
+abbrev pub share : ℕ → PagePlan → ℕ
+share k Zero = 0
+share k (Packed order target exceptions) = share_of_order k order
+share k Raw = share_of_order k 3
+
+-- the blocks of the plans of all pages but one could meet every place of order k; it speaks of the contents alone
+unfoldable pub Tight : Codec → ℕ → List (List ℕ) → ℕ → ℕ → Type 0
+Tight codec frames lines page k = frames * 2 ^ (3 - k) ≤ sum_by (share k) (slice_set (plans_of codec lines) page Zero)

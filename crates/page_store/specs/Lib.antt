@@ -1,0 +1,8 @@
+pub mod Pages
+pub mod Homes
+pub mod Moves
+pub mod Store
+pub mod Crowds
+pub mod Calls
+pub mod Sizes
+pub mod KeptSizes

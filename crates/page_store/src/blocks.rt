@@ -1,0 +1,96 @@
+// The blocks of all pages.
+ghost use Rattle.std.specs.Prelude.{◌≡◌, ◌≤◌, ◌<◌, ◌*◌, ℕ, length, replicate, IfOk, IfErr, OnOk, OnErr};
+ghost use Rattle.buddy_frames.specs.Units.{place_at, IsFreeBlock, IsCount};
+ghost use Rattle.page_store.specs.Homes.{Settles, LacksRoom, AreSound};
+ghost use Rattle.page_store.specs.declared.desc.Desc.TheVariants as desc;
+
+use crate::desc::Desc;
+use crate::homes::settle;
+use buddy_frames::Frames;
+use hier_types::NoMemory;
+use page_plan::PagePlan;
+use std::alloc::Global;
+use std::marker::Model;
+use std::mem;
+
+/// How each page is kept, and the frames that have the blocks.
+#[derive(Drop)]
+pub(crate) struct Blocks {
+    descriptors: Vec<Desc>,
+    frames: Frames,
+}
+
+impl Model for Blocks {
+    ghost use Rattle.page_store.specs.Homes.{Held, AreSound};
+
+    ghost Value = { Held };
+
+    ghost view = { λ b. record { descriptors = b.descriptors.items; used = b.frames } };
+
+    ghost invariant = { λ b. AreSound b.descriptors.items b.frames };
+}
+
+/// So many pages of zeros.
+fn zero_pages(alloc: Global, pages: u32) -> Result<Vec<Desc>, NoMemory>
+    ensures { IfOk result (λ made. made.items ≡ replicate pages desc.Zero) }
+{
+    let mut made = Vec::with_capacity(alloc, pages as usize)?;
+    for count in 0..pages {
+        made.push(Desc::Zero)?;
+    }
+    Ok(made)
+}
+
+impl Blocks {
+    /// So many pages of zeros, and so many frames, 1 to 65,536, of which none is in use.
+    pub(crate) fn new(alloc: Global, pages: u32, frames: u32) -> Result<Blocks, NoMemory>
+        requires some { 1 ≤ frames }
+        requires most { frames ≤ 65536 }
+        ensures fresh { IfOk result (λ blocks. blocks ≡ record { descriptors = replicate pages desc.Zero; used = replicate frames 0 }) }
+        ensures sound { IfOk result (λ blocks. AreSound blocks.descriptors blocks.used) }
+    {
+        let descriptors = zero_pages(alloc, pages)?;
+        let frames = Frames::new(alloc, frames)?;
+        Ok(Blocks {
+            descriptors,
+            frames,
+        })
+    }
+
+    /// Brings a page to a plan. The error is the plan's order, where no place of it is free for the page; nothing has
+    /// changed then.
+    pub(crate) fn settle(&mut self, page: usize, plan: PagePlan) -> Result<(), u8>
+        requires { page < length self.old.descriptors }
+        ensures ok { OnOk result (Settles self.old.descriptors self.old.used page plan self.new.descriptors self.new.used) }
+        ensures frames { length self.new.used ≡ length self.old.used }
+        ensures sound { AreSound self.new.descriptors self.new.used }
+        ensures err { IfErr result (λ order. LacksRoom self.old.descriptors self.old.used page plan order) }
+        ensures unchanged { OnErr result (self.new ≡ self.old) }
+    {
+        let held = mem::replace(&mut self.descriptors[page], Desc::Zero);
+        match settle(&mut self.frames, held, plan) {
+            Ok(desc) => {
+                self.descriptors[page] = desc;
+                Ok(())
+            }
+            Err(homeless) => {
+                self.descriptors[page] = homeless.held;
+                Err(homeless.order)
+            }
+        }
+    }
+
+    /// The number of free blocks of an order.
+    pub(crate) fn free(&self, order: u8) -> u32
+        ensures { IsCount (8 * length self.now.used) (λ unit. IsFreeBlock self.now.used (place_at order unit)) result }
+    {
+        self.frames.free(order)
+    }
+
+    /// How each page is kept.
+    pub(crate) fn descriptors(&self) -> &[Desc]
+        ensures { result.now ≡ self.now.descriptors }
+    {
+        self.descriptors.as_slice()
+    }
+}

@@ -1,0 +1,104 @@
+// One page's block, as its plan changes.
+ghost use Rattle.std.specs.Prelude.{◌≡◌, ◌≤◌, ◌<◌, Some, None, IfOk, IfErr, IfSome, OnErr};
+ghost use Rattle.buddy_frames.specs.Units.{IsUsedPlace};
+ghost use Rattle.page_store.specs.Homes.{block_of, IsAtPlan, order_of, Outgrows};
+ghost use Rattle.page_store.specs.Moves.{HasNoneBut, Moves, Houses};
+
+use crate::desc::Desc;
+use buddy_frames::{Block, Frames};
+use page_plan::PagePlan;
+
+/// A page that found no block of an order, as it was kept before and is kept still.
+#[derive(Drop)]
+pub(crate) struct Homeless {
+    pub held: Desc,
+    pub order: u8,
+}
+
+/// A block of another order for a block: its own first units where it has room, else what the frames choose.
+fn reorder(frames: &mut Frames, block: Block, order: u8) -> Result<Block, Block>
+    requires { IsUsedPlace frames.old block }
+    ensures houses { IfOk result (λ home. Houses frames.old (Some block) order home frames.new) }
+    ensures none { OnErr result (HasNoneBut frames.old (Some block) order) }
+    ensures outgrown { OnErr result (block.order < order) }
+    ensures back { IfErr result (λ back. back ≡ block) }
+    ensures unchanged { OnErr result (frames.new ≡ frames.old) }
+{
+    if order <= block.order() {
+        return Ok(frames.trim(block, order));
+    }
+    frames.resize(block, order)
+}
+
+/// A block of an order for a page.
+fn house(frames: &mut Frames, held: Desc, order: u8) -> Result<Block, Homeless>
+    requires { IfSome (block_of held) (IsUsedPlace frames.old) }
+    ensures houses { IfOk result (λ home. Houses frames.old (block_of held) order home frames.new) }
+    ensures none { OnErr result (HasNoneBut frames.old (block_of held) order) }
+    ensures outgrown { OnErr result (Outgrows (block_of held) order) }
+    ensures back { IfErr result (λ homeless. homeless ≡ record { held = held; order = order }) }
+    ensures unchanged { OnErr result (frames.new ≡ frames.old) }
+{
+    match held {
+        Desc::Zero => match frames.take(order) {
+            Some(block) => Ok(block),
+            None => Err(Homeless {
+                held: Desc::Zero,
+                order,
+            }),
+        },
+        Desc::Packed { block, target } => match reorder(frames, block, order) {
+            Ok(home) => Ok(home),
+            Err(block) => Err(Homeless {
+                held: Desc::Packed { block, target },
+                order,
+            }),
+        },
+        Desc::Raw { block } => match reorder(frames, block, order) {
+            Ok(home) => Ok(home),
+            Err(block) => Err(Homeless {
+                held: Desc::Raw { block },
+                order,
+            }),
+        },
+    }
+}
+
+/// Gives a page's block back.
+fn release(frames: &mut Frames, held: Desc)
+    requires { IfSome (block_of held) (IsUsedPlace frames.old) }
+    ensures { Moves frames.old (block_of held) None frames.new }
+{
+    match held {
+        Desc::Zero => {}
+        Desc::Packed { block, .. } => frames.give(block),
+        Desc::Raw { block } => frames.give(block),
+    }
+}
+
+/// Brings a page to a plan. Where the plan's order has no place the page and the frames stay as they were.
+pub(crate) fn settle(frames: &mut Frames, held: Desc, plan: PagePlan) -> Result<Desc, Homeless>
+    requires { IfSome (block_of held) (IsUsedPlace frames.old) }
+    ensures at_plan { IfOk result (IsAtPlan plan) }
+    ensures moves { IfOk result (λ desc. Moves frames.old (block_of held) (block_of desc) frames.new) }
+    ensures order { IfErr result (λ homeless. order_of plan ≡ Some homeless.order) }
+    ensures none { IfErr result (λ homeless. HasNoneBut frames.old (block_of held) homeless.order) }
+    ensures outgrown { IfErr result (λ homeless. Outgrows (block_of held) homeless.order) }
+    ensures back { IfErr result (λ homeless. homeless.held ≡ held) }
+    ensures unchanged { OnErr result (frames.new ≡ frames.old) }
+{
+    match plan {
+        PagePlan::Zero => {
+            release(frames, held);
+            Ok(Desc::Zero)
+        }
+        PagePlan::Packed { order, target, .. } => match house(frames, held, order) {
+            Ok(block) => Ok(Desc::Packed { block, target }),
+            Err(homeless) => Err(homeless),
+        },
+        PagePlan::Raw => match house(frames, held, 3) {
+            Ok(block) => Ok(Desc::Raw { block }),
+            Err(homeless) => Err(homeless),
+        },
+    }
+}

@@ -1,0 +1,165 @@
+ghost use Rattle.std.specs.Prelude.{◌≡◌, ◌≢◌, ◌≤◌, ◌*◌, ◌+◌, ℕ, length, IfOk};
+ghost use Rattle.page_store.specs.Store.{HasZero, fresh};
+ghost use Rattle.hier_types.specs.declared.settings.Codec.TheVariants.{Bdi};
+
+use super::*;
+use hier_types::{Codec, Geometry, Layer, Line, LineNo, NoMemory, NoSpace, PageNo, Totals};
+use std::alloc::Global;
+
+// Words that rise by the same step each.
+fn rising(first: u32, step: u32) -> Line {
+    let mut line = [0; 64];
+    let mut word = first;
+    for place in 0..16usize {
+        let [a, b, c, d] = word.to_le_bytes();
+        line[4 * place] = a;
+        line[4 * place + 1] = b;
+        line[4 * place + 2] = c;
+        line[4 * place + 3] = d;
+        word = word.wrapping_add(step);
+    }
+    line
+}
+
+// A line that takes 23 bytes in a slot.
+fn shortened() -> Line {
+    rising(0x0001_0000, 4)
+}
+
+// A line that no slot holds.
+fn plain() -> Line {
+    rising(0x0123_4567, 0x0123_4567)
+}
+
+fn store(alloc: Global, pages: u32, frames: u32) -> Result<Pages, NoMemory>
+    requires some_pages { 1 ≤ pages }
+    requires most_pages { pages ≤ 64 }
+    requires some_frames { 1 ≤ frames }
+    requires most_frames { frames ≤ 64 }
+    ensures { IfOk result (λ made. made ≡ fresh Bdi pages frames) }
+{
+    let geometry = Geometry { base: 16, pages };
+    Pages::new(alloc, geometry, frames, Codec::Bdi)
+}
+
+// Writes a line to the first lines of a page, and tells whether the last write was not refused.
+fn fill(pages: &mut Pages, page: u32, count: u32, line: &Line) -> bool
+    requires few { count ≤ 64 }
+    requires inside { 64 * page + 64 ≤ length pages.old.lines }
+    requires most { length pages.old.lines ≤ 4096 }
+    ensures { length pages.new.lines ≡ length pages.old.lines }
+{
+    let mut done = true;
+    for index in 0..count {
+        done = pages.write(LineNo(64 * page + index), line).is_ok();
+    }
+    done
+}
+
+// Only the first line of the page is not zero.
+fn first_line(line: Line) -> [u8; 4096] {
+    let mut bytes = [0; 4096];
+    bytes[..64].copy_from_slice(&line);
+    bytes
+}
+
+// Places a page, and tells whether that was not refused.
+fn place(pages: &mut Pages, page: u32, bytes: &[u8; 4096]) -> bool
+    requires { HasZero pages.old page }
+    ensures { (other : ℕ) → other ≢ page → HasZero pages.old other → HasZero pages.new other }
+{
+    pages.place_page(PageNo(page), bytes).is_ok()
+}
+
+/// A line in each of eight pages fills the frame with blocks of 512 bytes.
+#[test]
+fn nine_pages_in_one_frame(rt: HostRuntime) {
+    let Ok(mut pages) = store(rt.alloc(), 9, 1) else {
+        panic!(rt; "no memory");
+    };
+    assert_eq!(rt; (pages.free(0), pages.free(3)), (0, 1));
+    for page in 0..8u32 {
+        assert!(rt; fill(&mut pages, page, 1, &shortened()));
+    }
+    assert_eq!(rt; (pages.free(0), pages.free(3)), (0, 0));
+    let refusal = NoSpace {
+        page: PageNo(8),
+        order: 0,
+    };
+    assert_eq!(rt; pages.write(LineNo(512), &shortened()), Err(refusal));
+    let mut line = [7; 64];
+    assert_eq!(rt; pages.read(LineNo(512), &mut line), Ok(()));
+    assert_eq!(rt; line, [0; 64]);
+    assert_eq!(rt; pages.write(LineNo(512), &[0; 64]), Ok(()));
+    pages.view(LineNo(448), &mut line);
+    assert_eq!(rt; line, shortened());
+    assert_eq!(rt; (pages.counts().reads, pages.counts().writes), (1, 9));
+}
+
+/// A page of zeros and some lines that no slot holds, by the number of these.
+#[test]
+fn plans_by_plain_lines(rt: HostRuntime) {
+    for (count, classes, exceptions, encoded, blocks) in [
+        (3, (1, 0, 0, 0), 3, 314, 512),
+        (4, (0, 1, 0, 0), 4, 376, 1024),
+        (11, (0, 1, 0, 0), 11, 810, 1024),
+        (12, (0, 0, 1, 0), 12, 872, 2048),
+        (27, (0, 0, 1, 0), 27, 1802, 2048),
+        (28, (0, 0, 0, 1), 0, 4096, 4096),
+    ] {
+        let Ok(mut pages) = store(rt.alloc(), 1, 1) else {
+            panic!(rt; "no memory");
+        };
+        assert!(rt; fill(&mut pages, 0, count, &plain()));
+        let (c512, c1024, c2048, c4096) = classes;
+        let expected = Totals {
+            zero: 0,
+            c512,
+            c1024,
+            c2048,
+            c4096,
+            exceptions,
+            encoded,
+            blocks,
+        };
+        assert_eq!(rt; pages.totals(), expected);
+    }
+}
+
+/// A page of zeros, one with a line of 23 bytes, one with twelve of them, and one of plain lines.
+#[test]
+fn totals_of_four_pages(rt: HostRuntime) {
+    let Ok(mut pages) = store(rt.alloc(), 4, 4) else {
+        panic!(rt; "no memory");
+    };
+    assert!(rt; fill(&mut pages, 1, 1, &shortened()));
+    assert!(rt; fill(&mut pages, 2, 12, &shortened()));
+    assert!(rt; fill(&mut pages, 3, 64, &plain()));
+    let expected = Totals {
+        zero: 1,
+        c512: 1,
+        c1024: 0,
+        c2048: 1,
+        c4096: 1,
+        exceptions: 1,
+        encoded: 190 + 380 + 4096,
+        blocks: 512 + 2048 + 4096,
+    };
+    assert_eq!(rt; pages.totals(), expected);
+}
+
+/// Pages that are placed at once, until the frame is full.
+#[test]
+fn places_eight_pages_in_a_frame(rt: HostRuntime) {
+    for (frames, ninth) in [(1, false), (2, true)] {
+        let Ok(mut pages) = store(rt.alloc(), 9, frames) else {
+            panic!(rt; "no memory");
+        };
+        let bytes = first_line(shortened());
+        for page in 0..8u32 {
+            assert!(rt; place(&mut pages, page, &bytes));
+        }
+        assert_eq!(rt; place(&mut pages, 8, &bytes), ninth);
+        assert_eq!(rt; pages.counts().writes, 0);
+    }
+}
