@@ -5,6 +5,8 @@
 #![tactic(auto)]
 
 mod beats;
+mod cache_counts;
+mod errand;
 mod faults;
 mod geometry;
 mod layer;
@@ -19,6 +21,8 @@ mod tests;
 mod units;
 
 pub use beats::{Beat, BeatWord};
+pub use cache_counts::{L1Counts, L2Counts};
+pub use errand::Errand;
 pub use faults::{Failed, NoMemory, NoSpace, ShelfFault};
 pub use geometry::Geometry;
 pub use layer::Layer;
