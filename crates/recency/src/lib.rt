@@ -1,0 +1,9 @@
+//! The order in which slots were used, and sets of lines in the order of their use.
+//! Contracts see a list of slot numbers, or of lines with their bytes and dirty marks, the most recent first.
+//! It never asks a memory for a line, and moves no line's bytes when the order changes.
+#![tactic(auto)]
+
+mod order;
+mod ring;
+
+pub use order::Order;
