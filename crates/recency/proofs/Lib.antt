@@ -1,2 +1,4 @@
 pub mod RingLemmas
+pub mod SlotLemmas
+pub mod StoreLemmas
 pub mod UseLemmas

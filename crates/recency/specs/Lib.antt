@@ -1,2 +1,4 @@
+pub mod Kept
 pub mod Ring
+pub mod Slots
 pub mod Uses

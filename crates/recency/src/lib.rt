@@ -3,7 +3,13 @@
 //! It never asks a memory for a line, and moves no line's bytes when the order changes.
 #![tactic(auto)]
 
+mod entry;
+mod line_set;
 mod order;
 mod ring;
+mod slots;
+mod storage;
 
+pub use entry::Entry;
+pub use line_set::LineSet;
 pub use order::Order;
