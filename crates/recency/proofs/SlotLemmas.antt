@@ -8,7 +8,7 @@ use Rattle.recency.specs.declared.entry.Tag.{Tag}
 use Rattle.recency.specs.Uses.{Used, has, removed, last_of, but_last, more_recent, IsDistinct, AllBelow}
 use Rattle.recency.specs.Kept.{Kept, entry_of, without, touched, clean_entry, cleaned, clean_last, clean_in, last_dirty, last_dirty_from}
 use Rattle.recency.specs.Slots.{tag_at, entry_at, entries_of, IsTagged, IsStored, IsSlotOf}
-use Rattle.recency.proofs.UseLemmas.{by_eq, has_front, has_past, not_front, not_past, not_both, has_apart, before, before_has, has_below, has-removed, has-removed_other, distinct-removed, below-removed, length-removed}
+use Rattle.recency.proofs.UseLemmas.{by_eq, has_front, has_past, not_front, not_past, not_both, has_apart, before, before_has, more_behind, more_absent, has_below, has-removed, has-removed_other, distinct-removed, below-removed, length-removed}
 
 -- the entries are the same where slots and bytes are
 pub entries_same : (tags new : List Tag) (bytes other : List (List ℕ)) (ss : List ℕ) → ((s : ℕ) → has ss s ≡ true → entry_at new other s ≡ entry_at tags bytes s) → entries_of new other ss ≡ entries_of tags bytes ss
@@ -132,23 +132,13 @@ up_to-before y (z ∷ ss) s d h =
       up_to-past y (z ∷ ss) s other ∙ ap (λ l. y ∷ l) (up_to-before z ss s d.1 in_rest)
       ∙ sym (ap (λ x. up_to (y ∷ z ∷ ss) x ++ s ∷ []) b ∙ ap (λ l. l ++ s ∷ []) (up_to-past y (z ∷ ss) (before z ss s) away)))
 
-more_is : (y : ℕ) (ss : List ℕ) (s : ℕ) → has ss s ≡ true → more_recent (y ∷ ss) s ≡ Some (before y ss s)
-more_is y [] s h = absurd (let k = h in cc)
-more_is y (z ∷ ss) s h =
-  by_eq z s (λ e. rw (eq-eqb z s e) refl)
-    (λ apart. rw (ne_eqb z s apart) (more_is z ss s (sym (has_past z ss s apart) ∙ h)))
-
-more_of_none : (y : ℕ) (ss : List ℕ) (s : ℕ) → has ss s ≡ false → more_recent (y ∷ ss) s ≡ None
-more_of_none y [] s none = refl
-more_of_none y (z ∷ ss) s none = rw (ne_eqb z s (not_front z ss s none)) (more_of_none z ss s (not_past z ss s none))
-
 -- the slots up to one are those up to the next more recent, and itself
 pub through-more : (ss : List ℕ) (s : ℕ) → IsDistinct ss → has ss s ≡ true → up_to ss s ≡ through ss (more_recent ss s) ++ s ∷ []
 through-more [] s d h = absurd (let k = h in cc)
 through-more (y ∷ ss) s d h =
   by_eq y s
-    (λ e. rw (more_of_none y ss s (ap (has ss) (sym e) ∙ d.0), eq-eqb y s e) (ap (λ x. x ∷ []) e))
-    (λ ne. let k : has ss s ≡ true = sym (has_past y ss s ne) ∙ h in rw (more_is y ss s k) (up_to-before y ss s d k))
+    (λ e. rw (more_absent y ss s (ap (has ss) (sym e) ∙ d.0), eq-eqb y s e) (ap (λ x. x ∷ []) e))
+    (λ ne. let k : has ss s ≡ true = sym (has_past y ss s ne) ∙ h in rw (more_behind y ss s k) (up_to-before y ss s d k))
 
 -- the next more recent slot is in use
 pub more_has : (ss : List ℕ) (s t : ℕ) → more_recent ss s ≡ Some t → has ss t ≡ true

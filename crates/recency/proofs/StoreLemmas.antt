@@ -7,7 +7,7 @@ use Rattle.std.proofs.lemmas.List.{length-map}
 use Rattle.recency.specs.declared.entry.Entry.{Entry}
 use Rattle.recency.specs.declared.entry.Tag.{Tag}
 use Rattle.recency.specs.Uses.{Used, has, removed, last_of, but_last, IsDistinct, AllBelow}
-use Rattle.recency.specs.Kept.{Kept, entry_of, without, touched, clean_entry, dirty_entry, cleaned, clean_last, clean_in, last_dirty, put_in, has_room, dirty_victim, if_dirty}
+use Rattle.recency.specs.Kept.{Kept, entry_of, without, touched, clean_entry, dirty_entry, cleaned, clean_last, clean_in, last_dirty, put_in, has_room, dirty_victim, if_dirty, overwritten, poked}
 use Rattle.recency.specs.Slots.{tag_at, entry_at, entries_of, IsTagged, IsStored, IsSlotOf}
 use Rattle.recency.proofs.UseLemmas.{by_eq, has_front, has_past, not_front, not_past, not_both, has_apart, has_below, has-removed, has-removed_other, distinct-removed, below-removed, removed_none}
 use Rattle.recency.proofs.SlotLemmas.{entries_same, slot_entry, slot_none, none_slot, last_of-map, but_last-map, last_has, last_none_empty}
@@ -52,6 +52,12 @@ entry_both_other tags bytes s x t b ne =
 abbrev pub clean_tag : List Tag → ℕ → Tag
 clean_tag tags s = record { line = (tag_at tags s).line; dirty = false }
 
+pub clean_none_in : (tags : List Tag) (bytes : List (List ℕ)) (ss : List ℕ) (line : ℕ) → ((x : ℕ) → has ss x ≡ true → (tag_at tags x).line ≡ line → ⊥) → clean_in (entries_of tags bytes ss) line ≡ entries_of tags bytes ss
+clean_none_in tags bytes [] line none = refl
+clean_none_in tags bytes (z ∷ ss) line none =
+  rw (ne_eqb (tag_at tags z).line line (none z (has_front z ss z refl)))
+    (ap (λ l. entry_at tags bytes z ∷ l) (clean_none_in tags bytes ss line (λ x k. none x (by_eq z x (λ q. has_front z ss x q) (λ ne. has_past z ss x ne ∙ k)))))
+
 clean_at_slot : (tags : List Tag) (bytes : List (List ℕ)) (ss : List ℕ) (s line : ℕ) → IsDistinct ss → has ss s ≡ true → s < length tags → (tag_at tags s).line ≡ line
   → ((x : ℕ) → has ss x ≡ true → (tag_at tags x).line ≡ line → x ≡ s)
   → entries_of (set tags s (clean_tag tags s)) bytes ss ≡ clean_in (entries_of tags bytes ss) line
@@ -65,25 +71,13 @@ clean_at_slot tags bytes (y ∷ ss) s line d h lt at only =
         ap (entry_at (set tags s (clean_tag tags s)) bytes) e ∙ entry_tag tags bytes s (clean_tag tags s) lt ∙ sym (ap (λ x. cleaned (entry_at tags bytes x)) e) in
       let rest : entries_of (set tags s (clean_tag tags s)) bytes ss ≡ clean_in (entries_of tags bytes ss) line =
         entries_same tags (set tags s (clean_tag tags s)) bytes bytes ss (λ x k. entry_tag_other tags bytes s x (clean_tag tags s) (has_apart ss x s k out))
-        ∙ sym (clean_none ss (λ x k at2. not_both (has ss x) k (ap (has ss) (only x (by_eq y x (λ q. has_front y ss x q) (λ ne. has_past y ss x ne ∙ k)) at2) ∙ out))) in
+        ∙ sym (clean_none_in tags bytes ss line (λ x k at2. not_both (has ss x) k (ap (has ss) (only x (by_eq y x (λ q. has_front y ss x q) (λ ne. has_past y ss x ne ∙ k)) at2) ∙ out))) in
       rw (eq-eqb (tag_at tags y).line line here) (ap (λ z. z ∷ entries_of (set tags s (clean_tag tags s)) bytes ss) front ∙ ap (λ l. cleaned (entry_at tags bytes y) ∷ l) rest))
     (λ apart.
       let other : (tag_at tags y).line ≢ line = λ k. apart (only y (has_front y ss y refl) k) in
       rw (ne_eqb (tag_at tags y).line line other)
         (ap (λ z. z ∷ entries_of (set tags s (clean_tag tags s)) bytes ss) (entry_tag_other tags bytes s y (clean_tag tags s) apart)
         ∙ ap (λ l. entry_at tags bytes y ∷ l) (clean_at_slot tags bytes ss s line d.1 (sym (has_past y ss s apart) ∙ h) lt at (λ x k. only x (by_eq y x (λ q. has_front y ss x q) (λ ne. has_past y ss x ne ∙ k))))))
-  where
-  clean_none : (ss : List ℕ) → ((x : ℕ) → has ss x ≡ true → (tag_at tags x).line ≡ line → ⊥) → clean_in (entries_of tags bytes ss) line ≡ entries_of tags bytes ss
-  clean_none [] none = refl
-  clean_none (z ∷ ss) none =
-    rw (ne_eqb (tag_at tags z).line line (none z (has_front z ss z refl)))
-      (ap (λ l. entry_at tags bytes z ∷ l) (clean_none ss (λ x k. none x (by_eq z x (λ q. has_front z ss x q) (λ ne. has_past z ss x ne ∙ k)))))
-
-pub clean_none_in : (tags : List Tag) (bytes : List (List ℕ)) (ss : List ℕ) (line : ℕ) → ((x : ℕ) → has ss x ≡ true → (tag_at tags x).line ≡ line → ⊥) → clean_in (entries_of tags bytes ss) line ≡ entries_of tags bytes ss
-clean_none_in tags bytes [] line none = refl
-clean_none_in tags bytes (z ∷ ss) line none =
-  rw (ne_eqb (tag_at tags z).line line (none z (has_front z ss z refl)))
-    (ap (λ l. entry_at tags bytes z ∷ l) (clean_none_in tags bytes ss line (λ x k. none x (by_eq z x (λ q. has_front z ss x q) (λ ne. has_past z ss x ne ∙ k)))))
 
 clean_last_slot : (tags : List Tag) (bytes : List (List ℕ)) (ss : List ℕ) (s : ℕ) → IsDistinct ss → last_of ss ≡ Some s → s < length tags
   → entries_of (set tags s (clean_tag tags s)) bytes ss ≡ clean_last (entries_of tags bytes ss)
@@ -96,14 +90,16 @@ clean_last_slot tags bytes (y ∷ z ∷ ss) s d is lt =
   ap (λ x. x ∷ entries_of (set tags s (clean_tag tags s)) bytes (z ∷ ss)) (entry_tag_other tags bytes s y (clean_tag tags s) other)
   ∙ ap (λ l. entry_at tags bytes y ∷ l) (clean_last_slot tags bytes (z ∷ ss) s d.1 is lt)
 
-first_changed : (tags : List Tag) (bytes : List (List ℕ)) (ss : List ℕ) (s : ℕ) (t : Tag) (b : List ℕ) → IsDistinct ss → slice_get ss 0 ≡ Some s → s < length tags → s < length bytes
-  → entries_of (set tags s t) (set bytes s b) ss ≡ set (entries_of tags bytes ss) 0 (record { line = t.line; bytes = b; dirty = t.dirty })
-first_changed tags bytes [] s t b d is lt lt2 = refl
-first_changed tags bytes (y ∷ ss) s t b d is lt lt2 =
+first_changed : (tags : List Tag) (bytes : List (List ℕ)) (ss : List ℕ) (s : ℕ) (b : List ℕ) → IsDistinct ss → slice_get ss 0 ≡ Some s → s < length tags → s < length bytes
+  → entries_of (set tags s (record { line = (tag_at tags s).line; dirty = true })) (set bytes s b) ss ≡ overwritten (entries_of tags bytes ss) b
+first_changed tags bytes [] s b d is lt lt2 = refl
+first_changed tags bytes (y ∷ ss) s b d is lt lt2 =
   let e : y ≡ s = cc in
   let out : has ss s ≡ false = ap (has ss) (sym e) ∙ d.0 in
-  ap (λ z. z ∷ entries_of (set tags s t) (set bytes s b) ss) (ap (entry_at (set tags s t) (set bytes s b)) e ∙ entry_both tags bytes s t b lt lt2)
-  ∙ ap (λ l. record { line = t.line; bytes = b; dirty = t.dirty } ∷ l) (entries_same tags (set tags s t) bytes (set bytes s b) ss (λ x k. entry_both_other tags bytes s x t b (has_apart ss x s k out)))
+  let t : Tag = record { line = (tag_at tags s).line; dirty = true } in
+  ap (λ z. z ∷ entries_of (set tags s t) (set bytes s b) ss)
+    (ap (entry_at (set tags s t) (set bytes s b)) e ∙ entry_both tags bytes s t b lt lt2 ∙ sym (ap (λ x. dirty_entry (tag_at tags x).line b) e))
+  ∙ ap (λ l. dirty_entry (tag_at tags y).line b ∷ l) (entries_same tags (set tags s t) bytes (set bytes s b) ss (λ x k. entry_both_other tags bytes s x t b (has_apart ss x s k out)))
 
 -- the slots in use after one was used
 has_used : (ss : List ℕ) (s x : ℕ) → has (s ∷ removed ss s) x ≡ true → (x ≢ s) → has ss x ≡ true
@@ -187,16 +183,19 @@ module _ {ways : ℕ} {order : Used} {tags : List Tag} {bytes : List (List ℕ)}
   pub cleaned_last : (s : ℕ) → last_of order.slots ≡ Some s → entries_of (set tags s (clean_tag tags s)) bytes order.slots ≡ clean_last (entries_of tags bytes order.slots)
   cleaned_last s is = clean_last_slot tags bytes order.slots s stored.tagged.distinct is (tag_within s (last_has order.slots s is))
 
-  pub changed_first : (s : ℕ) (b : List ℕ) (e : Entry) → slice_get order.slots 0 ≡ Some s → slice_get (entries_of tags bytes order.slots) 0 ≡ Some e
-    → entries_of (set tags s (record { line = (tag_at tags s).line; dirty = true })) (set bytes s b) order.slots ≡ set (entries_of tags bytes order.slots) 0 (dirty_entry e.line b)
-  changed_first s b e is here =
+  pub changed_first : (s : ℕ) (b : List ℕ) → slice_get order.slots 0 ≡ Some s
+    → entries_of (set tags s (record { line = (tag_at tags s).line; dirty = true })) (set bytes s b) order.slots ≡ overwritten (entries_of tags bytes order.slots) b
+  changed_first s b is =
     let h = first_has order.slots s is in
-    first_changed tags bytes order.slots s (record { line = (tag_at tags s).line; dirty = true }) b stored.tagged.distinct is (tag_within s h) (bytes_within s h)
-    ∙ ap (λ l. set (entries_of tags bytes order.slots) 0 (dirty_entry l b)) (ap (λ (z : Entry). z.line) (first_is order.slots is here))
+    first_changed tags bytes order.slots s b stored.tagged.distinct is (tag_within s h) (bytes_within s h)
+
+  pub poked_first : (s offset byte : ℕ) → slice_get order.slots 0 ≡ Some s
+    → entries_of (set tags s (record { line = (tag_at tags s).line; dirty = true })) (set bytes s (set (get_or bytes s []) offset byte)) order.slots ≡ poked (entries_of tags bytes order.slots) offset byte
+  poked_first s offset byte is = changed_first s (set (get_or bytes s []) offset byte) is ∙ over order.slots is
     where
-    first_is : (ss : List ℕ) → slice_get ss 0 ≡ Some s → slice_get (entries_of tags bytes ss) 0 ≡ Some e → entry_at tags bytes s ≡ e
-    first_is [] is here = absurd (let k = is in cc)
-    first_is (y ∷ ss) is here = let same : y ≡ s = cc in sym (ap (entry_at tags bytes) same) ∙ (let k : Some (entry_at tags bytes y) ≡ Some e = here in cc)
+    over : (ss : List ℕ) → slice_get ss 0 ≡ Some s → overwritten (entries_of tags bytes ss) (set (get_or bytes s []) offset byte) ≡ poked (entries_of tags bytes ss) offset byte
+    over [] is = refl
+    over (y ∷ ss) is = let e : y ≡ s = cc in ap (λ x. dirty_entry (tag_at tags y).line (set (get_or bytes x []) offset byte) ∷ entries_of tags bytes ss) (sym e)
 
   full_test : ways ≤ length order.slots → nat_lt (length (entries_of tags bytes order.slots)) ways ≡ false
   full_test full = rw length-map (le-ltb (length order.slots) ways full)

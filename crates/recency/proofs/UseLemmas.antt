@@ -113,13 +113,13 @@ last_of-or w (y ∷ ss) ne = last_some y ss
   last_some y [] = refl
   last_some y (z ∷ ss) = last_some z ss
 
-more_behind : (y : ℕ) (ss : List ℕ) (s : ℕ) → has ss s ≡ true → IsDistinct (y ∷ ss) → more_recent (y ∷ ss) s ≡ Some (before y ss s)
-more_behind y [] s h d = absurd (let k = h in cc)
-more_behind y (z ∷ ss) s h d =
+pub more_behind : (y : ℕ) (ss : List ℕ) (s : ℕ) → has ss s ≡ true → more_recent (y ∷ ss) s ≡ Some (before y ss s)
+more_behind y [] s h = absurd (let k = h in cc)
+more_behind y (z ∷ ss) s h =
   by_eq z s (λ e. rw (eq-eqb z s e) refl)
-    (λ apart. rw (ne_eqb z s apart) (more_behind z ss s (sym (has_past z ss s apart) ∙ h) d.1))
+    (λ apart. rw (ne_eqb z s apart) (more_behind z ss s (sym (has_past z ss s apart) ∙ h)))
 
-more_absent : (y : ℕ) (ss : List ℕ) (s : ℕ) → has ss s ≡ false → more_recent (y ∷ ss) s ≡ None
+pub more_absent : (y : ℕ) (ss : List ℕ) (s : ℕ) → has ss s ≡ false → more_recent (y ∷ ss) s ≡ None
 more_absent y [] s none = refl
 more_absent y (z ∷ ss) s none = rw (ne_eqb z s (not_front z ss s none)) (more_absent z ss s (not_past z ss s none))
 
@@ -133,7 +133,7 @@ pub more_before : (w : ℕ) (ss : List ℕ) (s : ℕ) → IsDistinct ss → has 
 more_before w [] s d h ne = absurd (let k = h in cc)
 more_before w (y ∷ ss) s d h ne =
   by_eq y s (λ e. absurd (ne (rw (eq-eqb y s e) refl)))
-    (λ apart. rw (ne_eqb y s apart) (more_behind y ss s (sym (has_past y ss s apart) ∙ h) d))
+    (λ apart. rw (ne_eqb y s apart) (more_behind y ss s (sym (has_past y ss s apart) ∙ h)))
 
 -- the most recent slot has none
 pub more_first : (w : ℕ) (ss : List ℕ) (s : ℕ) → IsDistinct ss → AllBelow ss w → has ss s ≡ true → before w ss s ≡ w → more_recent ss s ≡ None

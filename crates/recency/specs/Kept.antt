@@ -1,5 +1,5 @@
 -- The lines that a set keeps, most recent first.
-use Rattle.std.specs.Prelude.{◌==◌, ℕ, Bool, true, false, List, [], ◌∷◌, Option, Some, None, length, nat_lt, if◌then◌else◌}
+use Rattle.std.specs.Prelude.{◌==◌, ℕ, Bool, true, false, List, [], ◌∷◌, Option, Some, None, length, slice_set, nat_lt, if◌then◌else◌}
 use Rattle.recency.specs.declared.entry.Entry.{Entry}
 use Rattle.recency.specs.Uses.{last_of, but_last}
 
@@ -64,6 +64,16 @@ abbrev pub clean_last : List Entry → List Entry
 clean_last [] = []
 clean_last (e ∷ []) = cleaned e ∷ []
 clean_last (e ∷ f ∷ es) = e ∷ clean_last (f ∷ es)
+
+-- the most recent entry with other bytes
+abbrev pub overwritten : List Entry → List ℕ → List Entry
+overwritten [] bytes = []
+overwritten (e ∷ es) bytes = dirty_entry e.line bytes ∷ es
+
+-- the most recent entry with another byte
+abbrev pub poked : List Entry → ℕ → ℕ → List Entry
+poked [] offset byte = []
+poked (e ∷ es) offset byte = dirty_entry e.line (slice_set e.bytes offset byte) ∷ es
 
 -- the least recent dirty entry, or else the one given
 abbrev pub last_dirty_from : Option Entry → List Entry → Option Entry

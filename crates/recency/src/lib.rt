@@ -5,6 +5,7 @@
 
 mod entry;
 mod line_set;
+mod line_sets;
 mod order;
 mod ring;
 mod slots;
@@ -12,4 +13,5 @@ mod storage;
 
 pub use entry::Entry;
 pub use line_set::LineSet;
+pub use line_sets::LineSets;
 pub use order::Order;

@@ -1,7 +1,7 @@
 // A set of lines.
-ghost use Rattle.std.specs.Prelude.{◌≡◌, ◌<◌, [], true, false, None, length, is_some, slice_get, slice_set, slice_index, IfOk, IfSome, MatchOption};
+ghost use Rattle.std.specs.Prelude.{◌≡◌, ◌<◌, [], true, false, None, length, is_some, slice_get, slice_index, IfOk, IfSome, MatchOption};
 ghost use Rattle.hier_types.specs.Settings.{IsWithin};
-ghost use Rattle.recency.specs.Kept.{entry_of, touched, put_in, dirty_victim, clean_last, last_dirty, clean_in, clean_entry, dirty_entry, with_lines};
+ghost use Rattle.recency.specs.Kept.{entry_of, touched, put_in, dirty_victim, clean_last, last_dirty, clean_in, clean_entry, overwritten, poked, with_lines};
 
 use crate::entry::{Entry, Tag};
 use crate::order::Order;
@@ -160,7 +160,7 @@ impl LineSet {
     pub fn set_first_byte(&mut self, offset: u32, byte: u8)
         requires some { 0 < length self.old.lines }
         requires inside { offset < 64 }
-        ensures { IfSome (slice_get self.old.lines 0) (λ e. self.new ≡ with_lines self.old (slice_set self.old.lines 0 (dirty_entry e.line (slice_set e.bytes offset byte)))) }
+        ensures { self.new ≡ with_lines self.old (poked self.old.lines offset byte) }
     {
         let slot = first_slot(&self.order);
         mark(&mut self.tags, slot, true);
@@ -179,7 +179,7 @@ impl LineSet {
     /// Changes the bytes of the most recent line, which is dirty from now on.
     pub fn set_first(&mut self, from: &Line)
         requires { 0 < length self.old.lines }
-        ensures { IfSome (slice_get self.old.lines 0) (λ e. self.new ≡ with_lines self.old (slice_set self.old.lines 0 (dirty_entry e.line from.now))) }
+        ensures { self.new ≡ with_lines self.old (overwritten self.old.lines from.now) }
     {
         let slot = first_slot(&self.order);
         mark(&mut self.tags, slot, true);
