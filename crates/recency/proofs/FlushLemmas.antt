@@ -7,7 +7,7 @@ use Rattle.recency.proofs.ListLemmas.{slice_get-set, slice_get-set_other}
 use Rattle.hier_types.proofs.LineLemmas.{lines-set}
 use Rattle.recency.specs.declared.entry.Entry.{Entry}
 use Rattle.recency.specs.Kept.{Kept, with_lines, entry_of, cleaned, last_dirty, last_dirty_from, clean_in}
-use Rattle.recency.specs.Levels.{set_at, set_of, with_set, bytes_or, overlay, IsGood, IsGoodEntry, IsSound}
+use Rattle.recency.specs.Levels.{set_at, set_of, with_set, bytes_or, overlay, IsGood, IsGoodEntry, IsSound, IsFirst}
 use Rattle.recency.specs.Steps.{next_dirty, next_dirty_or, with_clean}
 use Rattle.recency.proofs.UseLemmas.{by_eq}
 use Rattle.recency.proofs.EntryLemmas.{at_front, past_front, good_entry, good_elsewhere}
@@ -205,3 +205,26 @@ flush_falls lines sets sound e next =
   let k = next_kept lines sets sound e next in
   sum_falls sets (e.line % length sets) (with_lines (set_of sets e.line) (clean_in (set_of sets e.line).lines e.line)) k.0
     (dirty_falls (set_of sets e.line).lines e e.line k.1 k.2)
+
+-- the most recent line of a set stays so where one is made clean
+pub clean_keeps_first : (sets : List Kept) (l line : ℕ) → l % length sets < length sets → IsFirst sets line → IsFirst (with_clean sets l) line
+clean_keeps_first sets l line inside first =
+  by_eq (l % length sets) (line % length sets)
+    (λ y.
+      let there : set_of sets l ≡ set_of sets line = ap (set_at sets) y in
+      let here : slice_get (set_of sets l).lines 0 ≡ Some first.first = ap (λ (k : Kept). slice_get k.lines 0) there ∙ first.here in
+      record {
+        first = clean_if l first.first;
+        here = rw length-set (ap (λ (k : Kept). slice_get k.lines 0) (ap (set_at (with_clean sets l)) (sym y) ∙ set_at-same sets (l % length sets) (with_lines (set_of sets l) (clean_in (set_of sets l).lines l)) inside)
+          ∙ front (set_of sets l).lines first.first here);
+        line_is = clean_line first.first l ∙ first.line_is;
+      })
+    (λ apart. record {
+        first = first.first;
+        here = rw length-set (ap (λ (k : Kept). slice_get k.lines 0) (set_at-other sets (l % length sets) (line % length sets) (with_lines (set_of sets l) (clean_in (set_of sets l).lines l)) apart) ∙ first.here);
+        line_is = first.line_is;
+      })
+  where
+  front : (es : List Entry) (e : Entry) → slice_get es 0 ≡ Some e → slice_get (clean_in es l) 0 ≡ Some (clean_if l e)
+  front [] e is = absurd (let k = is in cc)
+  front (f ∷ es) e is = let same : f ≡ e = cc in ap (λ z. Some (clean_if l z)) same
