@@ -39,32 +39,32 @@ set_at-other sets i j k ne = rw (slice_get-set_other sets i j k ne) refl
 
 -- one set and the lines of that set below have changed
 pub sound_step : (lines new : List (List ℕ)) (sets : List Kept) (i : ℕ) (k : Kept) → IsSound lines sets → AreLines new → i < length sets → 0 < k.ways
-  → ((j : ℕ) → i ≢ j → IsGood new (length sets) j (set_at sets j).lines) → IsGood new (length sets) i k.lines → IsSound new (set sets i k)
+    → ((j : ℕ) → i ≢ j → IsGood new (length sets) j (set_at sets j).lines) → IsGood new (length sets) i k.lines → IsSound new (set sets i k)
 sound_step lines new sets i k sound whole inside ways others here = record {
-    whole = whole;
-    some = rw length-set sound.some;
-    ways = λ j h. by_eq i j
+  whole = whole;
+  some = rw length-set sound.some;
+  ways = λ j h. by_eq i j
       (λ y. subst (λ x. 0 < (set_at (set sets i k) x).ways) y (rw (set_at-same sets i k inside) ways))
       (λ apart. rw (set_at-other sets i j k apart) (sound.ways j (rw length-set at h)));
-    good = λ j. rw length-set (by_eq i j
+  good = λ j. rw length-set (by_eq i j
       (λ y. subst (λ x. IsGood new (length sets) x (set_at (set sets i k) x).lines) y (rw (set_at-same sets i k inside) here))
       (λ apart. rw (set_at-other sets i j k apart) (others j apart)));
-  }
+}
 
 -- what is shown of a line, by its set
 abbrev pub shown : List (List ℕ) → List Entry → ℕ → Option (List ℕ)
 shown lines es line = option_map (bytes_or (entry_of es line)) (slice_get lines line)
 
 pub overlay_step : (lines new : List (List ℕ)) (sets : List Kept) (i : ℕ) (k : Kept) → i < length sets
-  → ((line : ℕ) → line % length sets ≡ i → shown new k.lines line ≡ shown lines (set_at sets i).lines line)
-  → ((line : ℕ) → line % length sets ≢ i → slice_get new line ≡ slice_get lines line)
-  → overlay new (set sets i k) ≡ overlay lines sets
+    → ((line : ℕ) → line % length sets ≡ i → shown new k.lines line ≡ shown lines (set_at sets i).lines line)
+    → ((line : ℕ) → line % length sets ≢ i → slice_get new line ≡ slice_get lines line)
+    → overlay new (set sets i k) ≡ overlay lines sets
 overlay_step lines new sets i k inside here others = same_lists _ _ (λ line.
-  slice_get-overlay new (set sets i k) line
-  ∙ rw length-set (by_eq (line % length sets) i
-      (λ y. rw (y, set_at-same sets i k inside) (here line y))
-      (λ apart. rw (set_at-other sets i (line % length sets) k (λ y. apart (sym y)), others line apart) refl))
-  ∙ sym (slice_get-overlay lines sets line))
+    slice_get-overlay new (set sets i k) line
+    ∙ rw length-set (by_eq (line % length sets) i
+    (λ y. rw (y, set_at-same sets i k inside) (here line y))
+    (λ apart. rw (set_at-other sets i (line % length sets) k (λ y. apart (sym y)), others line apart) refl))
+    ∙ sym (slice_get-overlay lines sets line))
 
 -- an entry below, as an option
 inside_some : (lines : List (List ℕ)) (l : ℕ) → l < length lines → (b : List ℕ) × (slice_get lines l ≡ Some b)
@@ -78,30 +78,30 @@ shown_touched lines es line e is x = ap (λ k. option_map (bytes_or k) (slice_ge
 
 pub shown_clean_last : (lines : List (List ℕ)) (n i : ℕ) (es : List Entry) (e : Entry) → IsGood lines n i es → last_of es ≡ Some e → (x : ℕ) → shown (set lines e.line e.bytes) (clean_last es) x ≡ shown lines es x
 shown_clean_last lines n i es e good is x =
-  let kept = last_entry lines n i es e good is in
-  let inside = (good_entry lines n i es e.line e good kept).inside in
-  by_eq e.line x
+    let kept = last_entry lines n i es e good is in
+    let inside = (good_entry lines n i es e.line e good kept).inside in
+    by_eq e.line x
     (λ y. subst (λ z. shown (set lines e.line e.bytes) (clean_last es) z ≡ shown lines es z) y
-      (shown_kept (set lines e.line e.bytes) (clean_last es) (cleaned e) e.line (rw length-set inside) (entry_of-clean_last lines n i es e good is)
-        ∙ sym (shown_kept lines es e e.line inside kept)))
+    (shown_kept (set lines e.line e.bytes) (clean_last es) (cleaned e) e.line (rw length-set inside) (entry_of-clean_last lines n i es e good is)
+    ∙ sym (shown_kept lines es e e.line inside kept)))
     (λ apart. rw (entry_of-clean_other lines n i es e x is apart, slice_get-set_other lines e.line x e.bytes apart) refl)
 
 pub shown_put : (lines : List (List ℕ)) (es : List Entry) (line : ℕ) (bytes : List ℕ) → slice_get lines line ≡ Some bytes → entry_of es line ≡ None → (x : ℕ) → shown lines (clean_entry line bytes ∷ es) x ≡ shown lines es x
 shown_put lines es line bytes below none x =
-  by_eq line x
+    by_eq line x
     (λ y. subst (λ z. shown lines (clean_entry line bytes ∷ es) z ≡ shown lines es z) y (rw (at_front (clean_entry line bytes) es line refl, none, below) refl))
     (λ apart. ap (λ k. option_map (bytes_or k) (slice_get lines x)) (past_front (clean_entry line bytes) es x apart))
 
 pub shown_but_last : (lines : List (List ℕ)) (n i : ℕ) (es : List Entry) (e : Entry) → IsGood lines n i es → last_of es ≡ Some e → e.dirty ≡ false → (x : ℕ) → shown lines (but_last es) x ≡ shown lines es x
 shown_but_last lines n i es e good is clean x =
-  let kept = last_entry lines n i es e good is in
-  by_eq e.line x
+    let kept = last_entry lines n i es e good is in
+    by_eq e.line x
     (λ y. subst (λ z. shown lines (but_last es) z ≡ shown lines es z) y
-      (rw (entry_of-but_last_last lines n i es e good is, kept, (good_entry lines n i es e.line e good kept).clean clean) refl))
+    (rw (entry_of-but_last_last lines n i es e good is, kept, (good_entry lines n i es e.line e good kept).clean clean) refl))
     (λ apart. ap (λ k. option_map (bytes_or k) (slice_get lines x)) (entry_of-but_last_other lines n i es e x is apart))
 
 pub good_put : (lines : List (List ℕ)) (n i : ℕ) (es : List Entry) (line : ℕ) (bytes : List ℕ) → IsGood lines n i es → length bytes ≡ 64 → slice_get lines line ≡ Some bytes → line % n ≡ i → entry_of es line ≡ None
-  → IsGood lines n i (clean_entry line bytes ∷ es)
+    → IsGood lines n i (clean_entry line bytes ∷ es)
 good_put lines n i es line bytes good full below home none = (record { inside = slice_get_within lines line bytes below; home = home; full = full; clean = λ _. below }, none, good)
 
 pub room_cases : (b : Bool) (P : Type 0) → (b ≡ true → P) → (b ≡ false → P) → P
@@ -113,9 +113,9 @@ last_some (e ∷ []) h = (e, refl)
 last_some (e ∷ f ∷ es) h = last_some (f ∷ es) (omega arith)
 
 pub good_put_in : (lines : List (List ℕ)) (n i : ℕ) (k : Kept) (line : ℕ) (bytes : List ℕ) → IsGood lines n i k.lines → length bytes ≡ 64 → slice_get lines line ≡ Some bytes → line % n ≡ i → entry_of k.lines line ≡ None
-  → IsGood lines n i (put_in k (clean_entry line bytes))
+    → IsGood lines n i (put_in k (clean_entry line bytes))
 good_put_in lines n i k line bytes good full below home none =
-  room_cases (nat_lt (length k.lines) k.ways) _
+    room_cases (nat_lt (length k.lines) k.ways) _
     (λ t. rw t (good_put lines n i k.lines line bytes good full below home none))
     (λ f. rw f (good_put lines n i (but_last k.lines) line bytes (good_but_last lines n i k.lines good) full below home (entry_of-but_last_none lines n i k.lines line none)))
 
@@ -124,15 +124,15 @@ not_dirty : (e : Entry) → if_dirty (Some e) ≡ None → e.dirty ≡ false
 not_dirty e is = room_cases e.dirty _ (λ t. (let k : Some e ≡ None = sym (ap (λ b. if b then Some e else None) t) ∙ is in absurd (let q = k in cc))) (λ f. f)
 
 pub shown_put_in : (lines : List (List ℕ)) (n i : ℕ) (k : Kept) (line : ℕ) (bytes : List ℕ) → 0 < k.ways → dirty_victim k ≡ None → IsGood lines n i k.lines → slice_get lines line ≡ Some bytes → entry_of k.lines line ≡ None
-  → (x : ℕ) → shown lines (put_in k (clean_entry line bytes)) x ≡ shown lines k.lines x
+    → (x : ℕ) → shown lines (put_in k (clean_entry line bytes)) x ≡ shown lines k.lines x
 shown_put_in lines n i k line bytes ways ready good below none x =
-  room_cases (nat_lt (length k.lines) k.ways) _
+    room_cases (nat_lt (length k.lines) k.ways) _
     (λ t. rw t (shown_put lines k.lines line bytes below none x))
     (λ f.
-      let full : k.ways ≤ length k.lines = ltb-false (length k.lines) k.ways f in
-      let last : (e : Entry) × (last_of k.lines ≡ Some e) = last_some k.lines (omega arith) in
-      let clean : last.0.dirty ≡ false = not_dirty last.0 (sym (ap if_dirty last.1) ∙ sym (ap (λ b. if b then None else if_dirty (last_of k.lines)) f) ∙ ready) in
-      rw f (shown_put lines (but_last k.lines) line bytes below (entry_of-but_last_none lines n i k.lines line none) x ∙ shown_but_last lines n i k.lines last.0 good last.1 clean x))
+    let full : k.ways ≤ length k.lines = ltb-false (length k.lines) k.ways f in
+    let last : (e : Entry) × (last_of k.lines ≡ Some e) = last_some k.lines (omega arith) in
+    let clean : last.0.dirty ≡ false = not_dirty last.0 (sym (ap if_dirty last.1) ∙ sym (ap (λ b. if b then None else if_dirty (last_of k.lines)) f) ∙ ready) in
+    rw f (shown_put lines (but_last k.lines) line bytes below (entry_of-but_last_none lines n i k.lines line none) x ∙ shown_but_last lines n i k.lines last.0 good last.1 clean x))
 
 -- a set that stays
 pub unchanged : (sets : List Kept) (line : ℕ) → line % length sets < length sets → sets ≡ with_set sets line (set_of sets line).lines
@@ -141,36 +141,39 @@ unchanged sets line h = sym (set_there sets (line % length sets) (set_of sets li
 -- the lines of a level are lines
 pub whole_overlay : (lines : List (List ℕ)) (sets : List Kept) → IsSound lines sets → AreLines (overlay lines sets)
 whole_overlay lines sets sound k d lt =
-  let inside : k < length lines = omega (arith, length-overlay lines sets) in
-  let below : slice_get lines k ≡ Some (get_or lines k d) = slice_get-get_or lines k d inside in
-  let here : slice_get (overlay lines sets) k ≡ Some (bytes_or (kept_of sets k) (get_or lines k d)) = slice_get-overlay lines sets k ∙ ap (option_map (bytes_or (kept_of sets k))) below in
-  let is : get_or (overlay lines sets) k d ≡ bytes_or (kept_of sets k) (get_or lines k d) = get_or_from_slice_get (overlay lines sets) k (bytes_or (kept_of sets k) (get_or lines k d)) d here in
-  ap length is ∙ full (kept_of sets k) refl
+    let inside : k < length lines = omega (arith, length-overlay lines sets) in
+    let below : slice_get lines k ≡ Some (get_or lines k d) = slice_get-get_or lines k d inside in
+    let here : slice_get (overlay lines sets) k ≡ Some (bytes_or (kept_of sets k) (get_or lines k d)) = slice_get-overlay lines sets k ∙ ap (option_map (bytes_or (kept_of sets k))) below in
+    let is : get_or (overlay lines sets) k d ≡ bytes_or (kept_of sets k) (get_or lines k d) = get_or_from_slice_get (overlay lines sets) k (bytes_or (kept_of sets k) (get_or lines k d)) d here in
+    ap length is ∙ full (kept_of sets k) refl
   where
-  full : (kept : Option Entry) → kept_of sets k ≡ kept → length (bytes_or (kept_of sets k) (get_or lines k d)) ≡ 64
-  full None is = ap (λ e. length (bytes_or e (get_or lines k d))) is ∙ sound.whole k d (omega (arith, length-overlay lines sets))
-  full (Some e) is = ap (λ e. length (bytes_or e (get_or lines k d))) is ∙ (good_entry lines (length sets) (k % length sets) (set_of sets k).lines k e (sound.good (k % length sets)) is).full
+    full : (kept : Option Entry) → kept_of sets k ≡ kept → length (bytes_or (kept_of sets k) (get_or lines k d)) ≡ 64
+    full None is = ap (λ e. length (bytes_or e (get_or lines k d))) is ∙ sound.whole k d (omega (arith, length-overlay lines sets))
+    full (Some e) is = ap (λ e. length (bytes_or e (get_or lines k d))) is ∙ (good_entry lines (length sets) (k % length sets) (set_of sets k).lines k e (sound.good (k % length sets)) is).full
 
 good_under : (lines new : List (List ℕ)) (n i : ℕ) (es : List Entry) → length new ≡ length lines
-  → ((line : ℕ) → line % n ≡ i → is_some (entry_of es line) ≡ true → slice_get new line ≡ slice_get lines line) → IsGood lines n i es → IsGood new n i es
+    → ((line : ℕ) → line % n ≡ i → is_some (entry_of es line) ≡ true → slice_get new line ≡ slice_get lines line) → IsGood lines n i es → IsGood new n i es
 good_under lines new n i [] len same good = tt
-good_under lines new n i (f ∷ es) len same good =
-  ( record {
-      inside = rw len good.0.inside; home = good.0.home; full = good.0.full;
-      clean = λ c. same f.line good.0.home (ap is_some (at_front f es f.line refl)) ∙ good.0.clean c;
-    },
-    good.1,
-    good_under lines new n i es len (λ line home k. same line home (by_eq f.line line (λ y. ap is_some (at_front f es line y)) (λ apart. ap is_some (past_front f es line apart) ∙ k))) good.2 )
+good_under lines new n i (f ∷ es) len same good = (
+  record {
+    inside = rw len good.0.inside;
+    home = good.0.home;
+    full = good.0.full;
+    clean = λ c. same f.line good.0.home (ap is_some (at_front f es f.line refl)) ∙ good.0.clean c;
+  },
+  good.1,
+  good_under lines new n i es len (λ line home k. same line home (by_eq f.line line (λ y. ap is_some (at_front f es line y)) (λ apart. ap is_some (past_front f es line apart) ∙ k))) good.2,
+)
 
 -- the layer below has changed elsewhere
 pub sound_under : (lines new : List (List ℕ)) (sets : List Kept) → KeepsUnder sets lines new → AreLines new → IsSound lines sets → IsSound new sets
 sound_under lines new sets keeps whole sound = record {
-    whole = whole;
-    some = sound.some;
-    ways = sound.ways;
-    good = λ i. good_under lines new (length sets) i (set_at sets i).lines keeps.len
+  whole = whole;
+  some = sound.some;
+  ways = sound.ways;
+  good = λ i. good_under lines new (length sets) i (set_at sets i).lines keeps.len
       (λ line home k. keeps.kept line (rw home k)) (sound.good i);
-  }
+}
 
 pub in_range : (lines : List (List ℕ)) (sets : List Kept) (line : ℕ) → IsSound lines sets → line % length sets < length sets
 in_range lines sets line sound = let h = sound.some in omega arith
@@ -178,12 +181,12 @@ in_range lines sets line sound = let h = sound.some in omega arith
 -- the bits of the mask are the number of a line's set
 pub masked : (line mask n most : ℕ) → n ≡ mask + 1 → IsPowerOfTwo most n → bit_and line mask ≡ line % n
 masked line mask n most size power =
-  let same : mask ≡ 2 ^ power.0 - 1 = let e = power.1 in omega arith in
-  ap (bit_and line) same ∙ and_mask line power.0 ∙ ap (λ k. line % k) (sym power.1)
+    let same : mask ≡ 2 ^ power.0 - 1 = let e = power.1 in omega arith in
+    ap (bit_and line) same ∙ and_mask line power.0 ∙ ap (λ k. line % k) (sym power.1)
 
 pub masked_sets : (made : List Kept) (sets : ℕ) (k : Kept) → made ≡ replicate sets k → IsPowerOfTwo 4096 sets → IsMasked made (sets - 1)
 masked_sets made sets k is power =
-  let size : length made ≡ sets = ap length is ∙ length-replicate sets k in
-  let some = pow_pos power.0 in
-  let e = power.1 in
-  record { size = omega arith; power = rw size power }
+    let size : length made ≡ sets = ap length is ∙ length-replicate sets k in
+    let some = pow_pos power.0 in
+    let e = power.1 in
+    record { size = omega arith; power = rw size power }

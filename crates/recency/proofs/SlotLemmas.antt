@@ -14,40 +14,40 @@ use Rattle.recency.proofs.UseLemmas.{by_eq, has_front, has_past, not_front, not_
 pub entries_same : (tags new : List Tag) (bytes other : List (List ℕ)) (ss : List ℕ) → ((s : ℕ) → has ss s ≡ true → entry_at new other s ≡ entry_at tags bytes s) → entries_of new other ss ≡ entries_of tags bytes ss
 entries_same tags new bytes other [] same = refl
 entries_same tags new bytes other (s ∷ ss) same =
-  let front = same s (has_front s ss s refl) in
-  let rest = entries_same tags new bytes other ss (λ x h. same x (by_eq s x (λ e. has_front s ss x e) (λ apart. has_past s ss x apart ∙ h))) in
-  ap (λ e. e ∷ entries_of new other ss) front ∙ ap (λ es. entry_at tags bytes s ∷ es) rest
+    let front = same s (has_front s ss s refl) in
+    let rest = entries_same tags new bytes other ss (λ x h. same x (by_eq s x (λ e. has_front s ss x e) (λ apart. has_past s ss x apart ∙ h))) in
+    ap (λ e. e ∷ entries_of new other ss) front ∙ ap (λ es. entry_at tags bytes s ∷ es) rest
 
 -- the slot of a line, among the entries
 pub slot_entry : (tags : List Tag) (bytes : List (List ℕ)) (ss : List ℕ) (s line : ℕ) → IsDistinct ss → has ss s ≡ true → (tag_at tags s).line ≡ line
-  → ((x : ℕ) → has ss x ≡ true → (tag_at tags x).line ≡ line → x ≡ s)
-  → (entry_of (entries_of tags bytes ss) line ≡ Some (entry_at tags bytes s)) × (without (entries_of tags bytes ss) line ≡ entries_of tags bytes (removed ss s))
+    → ((x : ℕ) → has ss x ≡ true → (tag_at tags x).line ≡ line → x ≡ s)
+    → (entry_of (entries_of tags bytes ss) line ≡ Some (entry_at tags bytes s)) × (without (entries_of tags bytes ss) line ≡ entries_of tags bytes (removed ss s))
 slot_entry tags bytes [] s line d h at only = absurd (let k = h in cc)
 slot_entry tags bytes (y ∷ ss) s line d h at only =
-  by_eq y s
+    by_eq y s
     (λ e.
-      let here : (tag_at tags y).line ≡ line = ap (λ x. (tag_at tags x).line) e ∙ at in
-      (rw (eq-eqb (tag_at tags y).line line here) (ap (λ x. Some (entry_at tags bytes x)) e), rw (eq-eqb (tag_at tags y).line line here, eq-eqb y s e) refl))
+    let here : (tag_at tags y).line ≡ line = ap (λ x. (tag_at tags x).line) e ∙ at in
+    (rw (eq-eqb (tag_at tags y).line line here) (ap (λ x. Some (entry_at tags bytes x)) e), rw (eq-eqb (tag_at tags y).line line here, eq-eqb y s e) refl))
     (λ apart.
-      let other : (tag_at tags y).line ≢ line = λ k. apart (only y (has_front y ss y refl) k) in
-      let rest = slot_entry tags bytes ss s line d.1 (sym (has_past y ss s apart) ∙ h) at (λ x k. only x (by_eq y x (λ e. has_front y ss x e) (λ ne. has_past y ss x ne ∙ k))) in
-      (rw (ne_eqb (tag_at tags y).line line other) rest.0, rw (ne_eqb (tag_at tags y).line line other, ne_eqb y s apart) (ap (λ es. entry_at tags bytes y ∷ es) rest.1)))
+    let other : (tag_at tags y).line ≢ line = λ k. apart (only y (has_front y ss y refl) k) in
+    let rest = slot_entry tags bytes ss s line d.1 (sym (has_past y ss s apart) ∙ h) at (λ x k. only x (by_eq y x (λ e. has_front y ss x e) (λ ne. has_past y ss x ne ∙ k))) in
+    (rw (ne_eqb (tag_at tags y).line line other) rest.0, rw (ne_eqb (tag_at tags y).line line other, ne_eqb y s apart) (ap (λ es. entry_at tags bytes y ∷ es) rest.1)))
 
 pub slot_none : (tags : List Tag) (bytes : List (List ℕ)) (ss : List ℕ) (line : ℕ) → ((x : ℕ) → has ss x ≡ true → (tag_at tags x).line ≡ line → ⊥) → entry_of (entries_of tags bytes ss) line ≡ None
 slot_none tags bytes [] line none = refl
 slot_none tags bytes (y ∷ ss) line none =
-  rw (ne_eqb (tag_at tags y).line line (none y (has_front y ss y refl)))
+    rw (ne_eqb (tag_at tags y).line line (none y (has_front y ss y refl)))
     (slot_none tags bytes ss line (λ x k. none x (by_eq y x (λ e. has_front y ss x e) (λ ne. has_past y ss x ne ∙ k))))
 
 -- and the other way: a line that is not kept is in no slot
 pub none_slot : (tags : List Tag) (bytes : List (List ℕ)) (ss : List ℕ) (line : ℕ) → entry_of (entries_of tags bytes ss) line ≡ None → (x : ℕ) → has ss x ≡ true → (tag_at tags x).line ≢ line
 none_slot tags bytes [] line none x h at = absurd (let k = h in cc)
 none_slot tags bytes (y ∷ ss) line none x h at =
-  by_eq (tag_at tags y).line line
+    by_eq (tag_at tags y).line line
     (λ e. (let k : Some (entry_at tags bytes y) ≡ None = sym (ap (λ b. if b then Some (entry_at tags bytes y) else entry_of (entries_of tags bytes ss) line) (eq-eqb (tag_at tags y).line line e)) ∙ none in absurd (let q = k in cc)))
     (λ ne.
-      let rest : entry_of (entries_of tags bytes ss) line ≡ None = sym (ap (λ b. if b then Some (entry_at tags bytes y) else entry_of (entries_of tags bytes ss) line) (ne_eqb (tag_at tags y).line line ne)) ∙ none in
-      by_eq y x (λ e. ne (ap (λ z. (tag_at tags z).line) e ∙ at)) (λ apart. none_slot tags bytes ss line rest x (sym (has_past y ss x apart) ∙ h) at))
+    let rest : entry_of (entries_of tags bytes ss) line ≡ None = sym (ap (λ b. if b then Some (entry_at tags bytes y) else entry_of (entries_of tags bytes ss) line) (ne_eqb (tag_at tags y).line line ne)) ∙ none in
+    by_eq y x (λ e. ne (ap (λ z. (tag_at tags z).line) e ∙ at)) (λ apart. none_slot tags bytes ss line rest x (sym (has_past y ss x apart) ∙ h) at))
 
 pub last_of-map : {A B : Type 0} (f : A → B) (xs : List A) → last_of (map f xs) ≡ option_map f (last_of xs)
 last_of-map f [] = refl
@@ -70,16 +70,16 @@ pub removed_last : (ss : List ℕ) (s : ℕ) → IsDistinct ss → last_of ss �
 removed_last [] s d is = refl
 removed_last (y ∷ []) s d is = let same : y ≡ s = cc in rw (eq-eqb y s same) refl
 removed_last (y ∷ z ∷ ss) s d is =
-  let other : y ≢ s = λ e. not_both (has (z ∷ ss) y) (ap (has (z ∷ ss)) e ∙ last_has (z ∷ ss) s is) d.0 in
-  rw (ne_eqb y s other) (ap (λ l. y ∷ l) (removed_last (z ∷ ss) s d.1 is))
+    let other : y ≢ s = λ e. not_both (has (z ∷ ss) y) (ap (has (z ∷ ss)) e ∙ last_has (z ∷ ss) s is) d.0 in
+    rw (ne_eqb y s other) (ap (λ l. y ∷ l) (removed_last (z ∷ ss) s d.1 is))
 
 -- where each number below is in use, there are so many slots
 pub covered : (w : ℕ) (ss : List ℕ) → ((s : ℕ) → s < w → has ss s ≡ true) → w ≤ length ss
 covered zero ss all = omega arith
 covered (suc w) ss all =
-  let size = length-removed ss w (all w (omega arith)) in
-  let rest = covered w (removed ss w) (λ s lt. has-removed_other ss w s (λ e. absurd (omega arith)) ∙ all s (omega arith)) in
-  omega arith
+    let size = length-removed ss w (all w (omega arith)) in
+    let rest = covered w (removed ss w) (λ s lt. has-removed_other ss w s (λ e. absurd (omega arith)) ∙ all s (omega arith)) in
+    omega arith
 
 -- the entries of one more slot at the end
 pub last_dirty-more : (found : Option Entry) (es : List Entry) (e : Entry) → last_dirty_from found (es ++ e ∷ []) ≡ (if e.dirty then Some e else last_dirty_from found es)
@@ -99,16 +99,16 @@ up_to-last : (ss : List ℕ) (s : ℕ) → IsDistinct ss → last_of ss ≡ Some
 up_to-last [] s d is = refl
 up_to-last (y ∷ []) s d is = let same : y ≡ s = cc in rw (eq-eqb y s same) refl
 up_to-last (y ∷ z ∷ ss) s d is =
-  let other : y ≢ s = λ e. not_both (has (z ∷ ss) y) (ap (has (z ∷ ss)) e ∙ last_has (z ∷ ss) s is) d.0 in
-  rw (ne_eqb y s other) (ap (λ l. y ∷ l) (up_to-last (z ∷ ss) s d.1 is))
+    let other : y ≢ s = λ e. not_both (has (z ∷ ss) y) (ap (has (z ∷ ss)) e ∙ last_has (z ∷ ss) s is) d.0 in
+    rw (ne_eqb y s other) (ap (λ l. y ∷ l) (up_to-last (z ∷ ss) s d.1 is))
 
 pub through-last : (ss : List ℕ) → IsDistinct ss → through ss (last_of ss) ≡ ss
 through-last ss d = elim (last_of ss) as (λ o. last_of ss ≡ o → through ss o ≡ ss) [ None ↦ λ is. none ss is | Some s ↦ λ is. up_to-last ss s d is ] refl
   where
-  none : (ss : List ℕ) → last_of ss ≡ None → [] ≡ ss
-  none [] is = refl
-  none (y ∷ []) is = absurd (let k = is in cc)
-  none (y ∷ z ∷ ss) is = absurd (let k = none (z ∷ ss) is in cc)
+    none : (ss : List ℕ) → last_of ss ≡ None → [] ≡ ss
+    none [] is = refl
+    none (y ∷ []) is = absurd (let k = is in cc)
+    none (y ∷ z ∷ ss) is = absurd (let k = none (z ∷ ss) is in cc)
 
 up_to-front : (y : ℕ) (ss : List ℕ) → up_to (y ∷ ss) y ≡ y ∷ []
 up_to-front y ss = rw (eq-eqb y y refl) refl
@@ -119,24 +119,24 @@ up_to-past y ss s ne = rw (ne_eqb y s ne) refl
 up_to-before : (y : ℕ) (ss : List ℕ) (s : ℕ) → IsDistinct (y ∷ ss) → has ss s ≡ true → up_to (y ∷ ss) s ≡ up_to (y ∷ ss) (before y ss s) ++ s ∷ []
 up_to-before y [] s d h = absurd (let k = h in cc)
 up_to-before y (z ∷ ss) s d h =
-  let other : y ≢ s = λ e. not_both (has (z ∷ ss) y) (ap (has (z ∷ ss)) e ∙ h) d.0 in
-  by_eq z s
+    let other : y ≢ s = λ e. not_both (has (z ∷ ss) y) (ap (has (z ∷ ss)) e ∙ h) d.0 in
+    by_eq z s
     (λ e.
-      let b : before y (z ∷ ss) s ≡ y = rw (eq-eqb z s e) refl in
-      up_to-past y (z ∷ ss) s other ∙ ap (λ l. y ∷ l) (rw (eq-eqb z s e) (ap (λ x. x ∷ []) e))
-      ∙ sym (ap (λ x. up_to (y ∷ z ∷ ss) x ++ s ∷ []) b ∙ ap (λ l. l ++ s ∷ []) (up_to-front y (z ∷ ss))))
+    let b : before y (z ∷ ss) s ≡ y = rw (eq-eqb z s e) refl in
+    up_to-past y (z ∷ ss) s other ∙ ap (λ l. y ∷ l) (rw (eq-eqb z s e) (ap (λ x. x ∷ []) e))
+    ∙ sym (ap (λ x. up_to (y ∷ z ∷ ss) x ++ s ∷ []) b ∙ ap (λ l. l ++ s ∷ []) (up_to-front y (z ∷ ss))))
     (λ ne.
-      let in_rest : has ss s ≡ true = sym (has_past z ss s ne) ∙ h in
-      let b : before y (z ∷ ss) s ≡ before z ss s = rw (ne_eqb z s ne) refl in
-      let away : y ≢ before z ss s = λ e. not_both (has (z ∷ ss) y) (ap (has (z ∷ ss)) e ∙ before_has z ss s in_rest) d.0 in
-      up_to-past y (z ∷ ss) s other ∙ ap (λ l. y ∷ l) (up_to-before z ss s d.1 in_rest)
-      ∙ sym (ap (λ x. up_to (y ∷ z ∷ ss) x ++ s ∷ []) b ∙ ap (λ l. l ++ s ∷ []) (up_to-past y (z ∷ ss) (before z ss s) away)))
+    let in_rest : has ss s ≡ true = sym (has_past z ss s ne) ∙ h in
+    let b : before y (z ∷ ss) s ≡ before z ss s = rw (ne_eqb z s ne) refl in
+    let away : y ≢ before z ss s = λ e. not_both (has (z ∷ ss) y) (ap (has (z ∷ ss)) e ∙ before_has z ss s in_rest) d.0 in
+    up_to-past y (z ∷ ss) s other ∙ ap (λ l. y ∷ l) (up_to-before z ss s d.1 in_rest)
+    ∙ sym (ap (λ x. up_to (y ∷ z ∷ ss) x ++ s ∷ []) b ∙ ap (λ l. l ++ s ∷ []) (up_to-past y (z ∷ ss) (before z ss s) away)))
 
 -- the slots up to one are those up to the next more recent, and itself
 pub through-more : (ss : List ℕ) (s : ℕ) → IsDistinct ss → has ss s ≡ true → up_to ss s ≡ through ss (more_recent ss s) ++ s ∷ []
 through-more [] s d h = absurd (let k = h in cc)
 through-more (y ∷ ss) s d h =
-  by_eq y s
+    by_eq y s
     (λ e. rw (more_absent y ss s (ap (has ss) (sym e) ∙ d.0), eq-eqb y s e) (ap (λ x. x ∷ []) e))
     (λ ne. let k : has ss s ≡ true = sym (has_past y ss s ne) ∙ h in rw (more_behind y ss s k) (up_to-before y ss s d k))
 
@@ -145,7 +145,7 @@ pub more_has : (ss : List ℕ) (s t : ℕ) → more_recent ss s ≡ Some t → h
 more_has [] s t is = absurd (let k = is in cc)
 more_has (y ∷ []) s t is = absurd (let k = is in cc)
 more_has (y ∷ z ∷ ss) s t is =
-  by_eq z s
+    by_eq z s
     (λ e. (let k : Some y ≡ Some t = sym (ap (λ b. if b then Some y else more_recent (z ∷ ss) s) (eq-eqb z s e)) ∙ is in let same : y ≡ t = cc in has_front y (z ∷ ss) t same))
     (λ ne. (let k = more_has (z ∷ ss) s t (sym (ap (λ b. if b then Some y else more_recent (z ∷ ss) s) (ne_eqb z s ne)) ∙ is) in by_eq y t (λ e. has_front y (z ∷ ss) t e) (λ apart. has_past y (z ∷ ss) t apart ∙ k)))
 
@@ -154,21 +154,21 @@ entries-more tags bytes [] s = refl
 entries-more tags bytes (y ∷ ss) s = ap (λ l. entry_at tags bytes y ∷ l) (entries-more tags bytes ss s)
 
 dirty_at : (tags : List Tag) (bytes : List (List ℕ)) (ss : List ℕ) (s : ℕ) → IsDistinct ss → has ss s ≡ true
-  → last_dirty (entries_of tags bytes (up_to ss s)) ≡ (if (tag_at tags s).dirty then Some (entry_at tags bytes s) else last_dirty (entries_of tags bytes (through ss (more_recent ss s))))
+    → last_dirty (entries_of tags bytes (up_to ss s)) ≡ (if (tag_at tags s).dirty then Some (entry_at tags bytes s) else last_dirty (entries_of tags bytes (through ss (more_recent ss s))))
 dirty_at tags bytes ss s d h =
-  ap (λ l. last_dirty (entries_of tags bytes l)) (through-more ss s d h) ∙ ap last_dirty (entries-more tags bytes (through ss (more_recent ss s)) s)
-  ∙ last_dirty-more None (entries_of tags bytes (through ss (more_recent ss s))) (entry_at tags bytes s)
+    ap (λ l. last_dirty (entries_of tags bytes l)) (through-more ss s d h) ∙ ap last_dirty (entries-more tags bytes (through ss (more_recent ss s)) s)
+    ∙ last_dirty-more None (entries_of tags bytes (through ss (more_recent ss s))) (entry_at tags bytes s)
 
 -- the slot that was reached is dirty
 pub dirty_found : (tags : List Tag) (bytes : List (List ℕ)) (ss : List ℕ) (s : ℕ) → IsDistinct ss → has ss s ≡ true → (tag_at tags s).dirty ≡ true → last_dirty (entries_of tags bytes (up_to ss s)) ≡ Some (entry_at tags bytes s)
 dirty_found tags bytes ss s d h t =
-  dirty_at tags bytes ss s d h ∙ ap (λ b. if b then Some (entry_at tags bytes s) else last_dirty (entries_of tags bytes (through ss (more_recent ss s)))) t
+    dirty_at tags bytes ss s d h ∙ ap (λ b. if b then Some (entry_at tags bytes s) else last_dirty (entries_of tags bytes (through ss (more_recent ss s)))) t
 
 -- it is clean, and the next more recent one is looked at
 pub dirty_passed : (tags : List Tag) (bytes : List (List ℕ)) (ss : List ℕ) (s : ℕ) → IsDistinct ss → has ss s ≡ true → (tag_at tags s).dirty ≡ false
-  → last_dirty (entries_of tags bytes (up_to ss s)) ≡ last_dirty (entries_of tags bytes (through ss (more_recent ss s)))
+    → last_dirty (entries_of tags bytes (up_to ss s)) ≡ last_dirty (entries_of tags bytes (through ss (more_recent ss s)))
 dirty_passed tags bytes ss s d h f =
-  dirty_at tags bytes ss s d h ∙ ap (λ b. if b then Some (entry_at tags bytes s) else last_dirty (entries_of tags bytes (through ss (more_recent ss s)))) f
+    dirty_at tags bytes ss s d h ∙ ap (λ b. if b then Some (entry_at tags bytes s) else last_dirty (entries_of tags bytes (through ss (more_recent ss s)))) f
 
 length-more : (ss : List ℕ) (s : ℕ) → length (ss ++ s ∷ []) ≡ length ss + 1
 length-more [] s = refl

@@ -27,12 +27,12 @@ first_has [] s is = absurd (let k = is in cc)
 first_has (y ∷ ss) s is = let same : y ≡ s = cc in has_front y ss s same
 
 pub first_touched : (tags : List Tag) (bytes : List (List ℕ)) (ss : List ℕ) (s line : ℕ) → slice_get ss 0 ≡ Some s → (tag_at tags s).line ≡ line
-  → (touched (entries_of tags bytes ss) line ≡ entries_of tags bytes ss) × (is_some (entry_of (entries_of tags bytes ss) line) ≡ true)
+    → (touched (entries_of tags bytes ss) line ≡ entries_of tags bytes ss) × (is_some (entry_of (entries_of tags bytes ss) line) ≡ true)
 first_touched tags bytes [] s line is at = absurd (let k = is in cc)
 first_touched tags bytes (y ∷ ss) s line is at =
-  let same : y ≡ s = cc in
-  let here : (tag_at tags y).line ≡ line = ap (λ x. (tag_at tags x).line) same ∙ at in
-  (rw (eq-eqb (tag_at tags y).line line here) (rw (eq-eqb (tag_at tags y).line line here) refl), rw (eq-eqb (tag_at tags y).line line here) refl)
+    let same : y ≡ s = cc in
+    let here : (tag_at tags y).line ≡ line = ap (λ x. (tag_at tags x).line) same ∙ at in
+    (rw (eq-eqb (tag_at tags y).line line here) (rw (eq-eqb (tag_at tags y).line line here) refl), rw (eq-eqb (tag_at tags y).line line here) refl)
 
 -- a slot after its tag, or its tag and its bytes, were changed
 pub entry_tag : (tags : List Tag) (bytes : List (List ℕ)) (s : ℕ) (t : Tag) → s < length tags → entry_at (set tags s t) bytes s ≡ record { line = t.line; bytes = get_or bytes s []; dirty = t.dirty }
@@ -46,7 +46,7 @@ entry_both tags bytes s t b lt lt2 = entry_tag tags (set bytes s b) s t lt ∙ a
 
 pub entry_both_other : (tags : List Tag) (bytes : List (List ℕ)) (s x : ℕ) (t : Tag) (b : List ℕ) → x ≢ s → entry_at (set tags s t) (set bytes s b) x ≡ entry_at tags bytes x
 entry_both_other tags bytes s x t b ne =
-  entry_tag_other tags (set bytes s b) s x t ne ∙ ap (λ (c : List ℕ). record { line = (tag_at tags x).line; bytes = c; dirty = (tag_at tags x).dirty }) (get_or-set_other bytes s x b [] ne)
+    entry_tag_other tags (set bytes s b) s x t ne ∙ ap (λ (c : List ℕ). record { line = (tag_at tags x).line; bytes = c; dirty = (tag_at tags x).dirty }) (get_or-set_other bytes s x b [] ne)
 
 -- a slot's line is made clean
 abbrev pub clean_tag : List Tag → ℕ → Tag
@@ -55,51 +55,51 @@ clean_tag tags s = record { line = (tag_at tags s).line; dirty = false }
 pub clean_none_in : (tags : List Tag) (bytes : List (List ℕ)) (ss : List ℕ) (line : ℕ) → ((x : ℕ) → has ss x ≡ true → (tag_at tags x).line ≡ line → ⊥) → clean_in (entries_of tags bytes ss) line ≡ entries_of tags bytes ss
 clean_none_in tags bytes [] line none = refl
 clean_none_in tags bytes (z ∷ ss) line none =
-  rw (ne_eqb (tag_at tags z).line line (none z (has_front z ss z refl)))
+    rw (ne_eqb (tag_at tags z).line line (none z (has_front z ss z refl)))
     (ap (λ l. entry_at tags bytes z ∷ l) (clean_none_in tags bytes ss line (λ x k. none x (by_eq z x (λ q. has_front z ss x q) (λ ne. has_past z ss x ne ∙ k)))))
 
 clean_at_slot : (tags : List Tag) (bytes : List (List ℕ)) (ss : List ℕ) (s line : ℕ) → IsDistinct ss → has ss s ≡ true → s < length tags → (tag_at tags s).line ≡ line
-  → ((x : ℕ) → has ss x ≡ true → (tag_at tags x).line ≡ line → x ≡ s)
-  → entries_of (set tags s (clean_tag tags s)) bytes ss ≡ clean_in (entries_of tags bytes ss) line
+    → ((x : ℕ) → has ss x ≡ true → (tag_at tags x).line ≡ line → x ≡ s)
+    → entries_of (set tags s (clean_tag tags s)) bytes ss ≡ clean_in (entries_of tags bytes ss) line
 clean_at_slot tags bytes [] s line d h lt at only = refl
 clean_at_slot tags bytes (y ∷ ss) s line d h lt at only =
-  by_eq y s
+    by_eq y s
     (λ e.
-      let here : (tag_at tags y).line ≡ line = ap (λ x. (tag_at tags x).line) e ∙ at in
-      let out : has ss s ≡ false = ap (has ss) (sym e) ∙ d.0 in
-      let front : entry_at (set tags s (clean_tag tags s)) bytes y ≡ cleaned (entry_at tags bytes y) =
-        ap (entry_at (set tags s (clean_tag tags s)) bytes) e ∙ entry_tag tags bytes s (clean_tag tags s) lt ∙ sym (ap (λ x. cleaned (entry_at tags bytes x)) e) in
-      let rest : entries_of (set tags s (clean_tag tags s)) bytes ss ≡ clean_in (entries_of tags bytes ss) line =
-        entries_same tags (set tags s (clean_tag tags s)) bytes bytes ss (λ x k. entry_tag_other tags bytes s x (clean_tag tags s) (has_apart ss x s k out))
-        ∙ sym (clean_none_in tags bytes ss line (λ x k at2. not_both (has ss x) k (ap (has ss) (only x (by_eq y x (λ q. has_front y ss x q) (λ ne. has_past y ss x ne ∙ k)) at2) ∙ out))) in
-      rw (eq-eqb (tag_at tags y).line line here) (ap (λ z. z ∷ entries_of (set tags s (clean_tag tags s)) bytes ss) front ∙ ap (λ l. cleaned (entry_at tags bytes y) ∷ l) rest))
+    let here : (tag_at tags y).line ≡ line = ap (λ x. (tag_at tags x).line) e ∙ at in
+    let out : has ss s ≡ false = ap (has ss) (sym e) ∙ d.0 in
+    let front : entry_at (set tags s (clean_tag tags s)) bytes y ≡ cleaned (entry_at tags bytes y) =
+    ap (entry_at (set tags s (clean_tag tags s)) bytes) e ∙ entry_tag tags bytes s (clean_tag tags s) lt ∙ sym (ap (λ x. cleaned (entry_at tags bytes x)) e) in
+    let rest : entries_of (set tags s (clean_tag tags s)) bytes ss ≡ clean_in (entries_of tags bytes ss) line =
+    entries_same tags (set tags s (clean_tag tags s)) bytes bytes ss (λ x k. entry_tag_other tags bytes s x (clean_tag tags s) (has_apart ss x s k out))
+    ∙ sym (clean_none_in tags bytes ss line (λ x k at2. not_both (has ss x) k (ap (has ss) (only x (by_eq y x (λ q. has_front y ss x q) (λ ne. has_past y ss x ne ∙ k)) at2) ∙ out))) in
+    rw (eq-eqb (tag_at tags y).line line here) (ap (λ z. z ∷ entries_of (set tags s (clean_tag tags s)) bytes ss) front ∙ ap (λ l. cleaned (entry_at tags bytes y) ∷ l) rest))
     (λ apart.
-      let other : (tag_at tags y).line ≢ line = λ k. apart (only y (has_front y ss y refl) k) in
-      rw (ne_eqb (tag_at tags y).line line other)
-        (ap (λ z. z ∷ entries_of (set tags s (clean_tag tags s)) bytes ss) (entry_tag_other tags bytes s y (clean_tag tags s) apart)
-        ∙ ap (λ l. entry_at tags bytes y ∷ l) (clean_at_slot tags bytes ss s line d.1 (sym (has_past y ss s apart) ∙ h) lt at (λ x k. only x (by_eq y x (λ q. has_front y ss x q) (λ ne. has_past y ss x ne ∙ k))))))
+    let other : (tag_at tags y).line ≢ line = λ k. apart (only y (has_front y ss y refl) k) in
+    rw (ne_eqb (tag_at tags y).line line other)
+    (ap (λ z. z ∷ entries_of (set tags s (clean_tag tags s)) bytes ss) (entry_tag_other tags bytes s y (clean_tag tags s) apart)
+    ∙ ap (λ l. entry_at tags bytes y ∷ l) (clean_at_slot tags bytes ss s line d.1 (sym (has_past y ss s apart) ∙ h) lt at (λ x k. only x (by_eq y x (λ q. has_front y ss x q) (λ ne. has_past y ss x ne ∙ k))))))
 
 clean_last_slot : (tags : List Tag) (bytes : List (List ℕ)) (ss : List ℕ) (s : ℕ) → IsDistinct ss → last_of ss ≡ Some s → s < length tags
-  → entries_of (set tags s (clean_tag tags s)) bytes ss ≡ clean_last (entries_of tags bytes ss)
+    → entries_of (set tags s (clean_tag tags s)) bytes ss ≡ clean_last (entries_of tags bytes ss)
 clean_last_slot tags bytes [] s d is lt = refl
 clean_last_slot tags bytes (y ∷ []) s d is lt =
-  let e : y ≡ s = cc in
-  ap (λ z. z ∷ []) (ap (entry_at (set tags s (clean_tag tags s)) bytes) e ∙ entry_tag tags bytes s (clean_tag tags s) lt ∙ sym (ap (λ x. cleaned (entry_at tags bytes x)) e))
+    let e : y ≡ s = cc in
+    ap (λ z. z ∷ []) (ap (entry_at (set tags s (clean_tag tags s)) bytes) e ∙ entry_tag tags bytes s (clean_tag tags s) lt ∙ sym (ap (λ x. cleaned (entry_at tags bytes x)) e))
 clean_last_slot tags bytes (y ∷ z ∷ ss) s d is lt =
-  let other : y ≢ s = λ e. not_both (has (z ∷ ss) y) (ap (has (z ∷ ss)) e ∙ last_has (z ∷ ss) s is) d.0 in
-  ap (λ x. x ∷ entries_of (set tags s (clean_tag tags s)) bytes (z ∷ ss)) (entry_tag_other tags bytes s y (clean_tag tags s) other)
-  ∙ ap (λ l. entry_at tags bytes y ∷ l) (clean_last_slot tags bytes (z ∷ ss) s d.1 is lt)
+    let other : y ≢ s = λ e. not_both (has (z ∷ ss) y) (ap (has (z ∷ ss)) e ∙ last_has (z ∷ ss) s is) d.0 in
+    ap (λ x. x ∷ entries_of (set tags s (clean_tag tags s)) bytes (z ∷ ss)) (entry_tag_other tags bytes s y (clean_tag tags s) other)
+    ∙ ap (λ l. entry_at tags bytes y ∷ l) (clean_last_slot tags bytes (z ∷ ss) s d.1 is lt)
 
 first_changed : (tags : List Tag) (bytes : List (List ℕ)) (ss : List ℕ) (s : ℕ) (b : List ℕ) → IsDistinct ss → slice_get ss 0 ≡ Some s → s < length tags → s < length bytes
-  → entries_of (set tags s (record { line = (tag_at tags s).line; dirty = true })) (set bytes s b) ss ≡ overwritten (entries_of tags bytes ss) b
+    → entries_of (set tags s (record { line = (tag_at tags s).line; dirty = true })) (set bytes s b) ss ≡ overwritten (entries_of tags bytes ss) b
 first_changed tags bytes [] s b d is lt lt2 = refl
 first_changed tags bytes (y ∷ ss) s b d is lt lt2 =
-  let e : y ≡ s = cc in
-  let out : has ss s ≡ false = ap (has ss) (sym e) ∙ d.0 in
-  let t : Tag = record { line = (tag_at tags s).line; dirty = true } in
-  ap (λ z. z ∷ entries_of (set tags s t) (set bytes s b) ss)
+    let e : y ≡ s = cc in
+    let out : has ss s ≡ false = ap (has ss) (sym e) ∙ d.0 in
+    let t : Tag = record { line = (tag_at tags s).line; dirty = true } in
+    ap (λ z. z ∷ entries_of (set tags s t) (set bytes s b) ss)
     (ap (entry_at (set tags s t) (set bytes s b)) e ∙ entry_both tags bytes s t b lt lt2 ∙ sym (ap (λ x. dirty_entry (tag_at tags x).line b) e))
-  ∙ ap (λ l. dirty_entry (tag_at tags y).line b ∷ l) (entries_same tags (set tags s t) bytes (set bytes s b) ss (λ x k. entry_both_other tags bytes s x t b (has_apart ss x s k out)))
+    ∙ ap (λ l. dirty_entry (tag_at tags y).line b ∷ l) (entries_same tags (set tags s t) bytes (set bytes s b) ss (λ x k. entry_both_other tags bytes s x t b (has_apart ss x s k out)))
 
 -- the slots in use after one was used
 has_used : (ss : List ℕ) (s x : ℕ) → has (s ∷ removed ss s) x ≡ true → (x ≢ s) → has ss x ≡ true
@@ -130,48 +130,48 @@ module _ {ways : ℕ} {order : Used} {tags : List Tag} {bytes : List (List ℕ)}
 
   pub found_touched : (s line : ℕ) → has order.slots s ≡ true → (tag_at tags s).line ≡ line → entries_of tags bytes (s ∷ removed order.slots s) ≡ touched (entries_of tags bytes order.slots) line
   found_touched s line h at =
-    let both = slot_entry tags bytes order.slots s line stored.tagged.distinct h at (only_slot s line h at) in
-    rw both.0 (ap (λ l. entry_at tags bytes s ∷ l) (sym both.1))
+      let both = slot_entry tags bytes order.slots s line stored.tagged.distinct h at (only_slot s line h at) in
+      rw both.0 (ap (λ l. entry_at tags bytes s ∷ l) (sym both.1))
 
   pub none_touched : (line : ℕ) → IsSlotOf order.slots tags line None → entries_of tags bytes order.slots ≡ touched (entries_of tags bytes order.slots) line
   none_touched line none = rw (slot_none tags bytes order.slots line none) refl
 
   pub stored_used : (s : ℕ) → has order.slots s ≡ true → IsStored ways (after_use order s) tags bytes
   stored_used s h = record {
-      some = stored.some;
-      ways_are = stored.ways_are;
-      tagged = record {
-        len = stored.tagged.len;
-        distinct = (has-removed order.slots s stored.tagged.distinct, distinct-removed order.slots s stored.tagged.distinct);
-        below = (used_below s h, below-removed order.slots s order.ways stored.tagged.below);
-        unique = λ x y hx hy same. stored.tagged.unique x y (was s h x hx) (was s h y hy) same;
-      };
-      full = stored.full;
-    }
+    some = stored.some;
+    ways_are = stored.ways_are;
+    tagged = record {
+      len = stored.tagged.len;
+      distinct = (has-removed order.slots s stored.tagged.distinct, distinct-removed order.slots s stored.tagged.distinct);
+      below = (used_below s h, below-removed order.slots s order.ways stored.tagged.below);
+      unique = λ x y hx hy same. stored.tagged.unique x y (was s h x hx) (was s h y hy) same;
+    };
+    full = stored.full;
+  }
     where
-    was : (s : ℕ) → has order.slots s ≡ true → (x : ℕ) → has (s ∷ removed order.slots s) x ≡ true → has order.slots x ≡ true
-    was s h x k = by_eq x s (λ e. ap (has order.slots) e ∙ h) (λ ne. has_used order.slots s x k ne)
+      was : (s : ℕ) → has order.slots s ≡ true → (x : ℕ) → has (s ∷ removed order.slots s) x ≡ true → has order.slots x ≡ true
+      was s h x k = by_eq x s (λ e. ap (has order.slots) e ∙ h) (λ ne. has_used order.slots s x k ne)
 
   -- another mark on a slot's line
   pub stored_marked : (s : ℕ) (dirty : Bool) → IsStored ways order (set tags s (record { line = (tag_at tags s).line; dirty = dirty })) bytes
   stored_marked s dirty = record {
-      some = stored.some;
-      ways_are = stored.ways_are;
-      tagged = record {
-        len = rw length-set stored.tagged.len;
-        distinct = stored.tagged.distinct;
-        below = stored.tagged.below;
-        unique = λ x y hx hy same. stored.tagged.unique x y hx hy (sym (marked x hx) ∙ same ∙ marked y hy);
-      };
-      full = stored.full;
-    }
+    some = stored.some;
+    ways_are = stored.ways_are;
+    tagged = record {
+      len = rw length-set stored.tagged.len;
+      distinct = stored.tagged.distinct;
+      below = stored.tagged.below;
+      unique = λ x y hx hy same. stored.tagged.unique x y hx hy (sym (marked x hx) ∙ same ∙ marked y hy);
+    };
+    full = stored.full;
+  }
     where
-    marked : (x : ℕ) → has order.slots x ≡ true → (tag_at (set tags s (record { line = (tag_at tags s).line; dirty = dirty })) x).line ≡ (tag_at tags x).line
-    marked x h = by_eq x s
-      (λ e. ap (λ z. (tag_at (set tags s (record { line = (tag_at tags s).line; dirty = dirty })) z).line) e
-        ∙ ap (λ (t : Tag). t.line) (get_or-set_same tags s (record { line = (tag_at tags s).line; dirty = dirty }) (record { line = 0; dirty = false }) (subst (λ z. z < length tags) e (tag_within x h)))
-        ∙ sym (ap (λ z. (tag_at tags z).line) e))
-      (λ ne. ap (λ (t : Tag). t.line) (get_or-set_other tags s x (record { line = (tag_at tags s).line; dirty = dirty }) (record { line = 0; dirty = false }) ne))
+      marked : (x : ℕ) → has order.slots x ≡ true → (tag_at (set tags s (record { line = (tag_at tags s).line; dirty = dirty })) x).line ≡ (tag_at tags x).line
+      marked x h = by_eq x s
+          (λ e. ap (λ z. (tag_at (set tags s (record { line = (tag_at tags s).line; dirty = dirty })) z).line) e
+          ∙ ap (λ (t : Tag). t.line) (get_or-set_same tags s (record { line = (tag_at tags s).line; dirty = dirty }) (record { line = 0; dirty = false }) (subst (λ z. z < length tags) e (tag_within x h)))
+          ∙ sym (ap (λ z. (tag_at tags z).line) e))
+          (λ ne. ap (λ (t : Tag). t.line) (get_or-set_other tags s x (record { line = (tag_at tags s).line; dirty = dirty }) (record { line = 0; dirty = false }) ne))
 
   -- other bytes in a slot
   pub stored_bytes : (s : ℕ) (b : List ℕ) → IsStored ways order tags (set bytes s b)
@@ -184,18 +184,18 @@ module _ {ways : ℕ} {order : Used} {tags : List Tag} {bytes : List (List ℕ)}
   cleaned_last s is = clean_last_slot tags bytes order.slots s stored.tagged.distinct is (tag_within s (last_has order.slots s is))
 
   pub changed_first : (s : ℕ) (b : List ℕ) → slice_get order.slots 0 ≡ Some s
-    → entries_of (set tags s (record { line = (tag_at tags s).line; dirty = true })) (set bytes s b) order.slots ≡ overwritten (entries_of tags bytes order.slots) b
+      → entries_of (set tags s (record { line = (tag_at tags s).line; dirty = true })) (set bytes s b) order.slots ≡ overwritten (entries_of tags bytes order.slots) b
   changed_first s b is =
-    let h = first_has order.slots s is in
-    first_changed tags bytes order.slots s b stored.tagged.distinct is (tag_within s h) (bytes_within s h)
+      let h = first_has order.slots s is in
+      first_changed tags bytes order.slots s b stored.tagged.distinct is (tag_within s h) (bytes_within s h)
 
   pub poked_first : (s offset byte : ℕ) → slice_get order.slots 0 ≡ Some s
-    → entries_of (set tags s (record { line = (tag_at tags s).line; dirty = true })) (set bytes s (set (get_or bytes s []) offset byte)) order.slots ≡ poked (entries_of tags bytes order.slots) offset byte
+      → entries_of (set tags s (record { line = (tag_at tags s).line; dirty = true })) (set bytes s (set (get_or bytes s []) offset byte)) order.slots ≡ poked (entries_of tags bytes order.slots) offset byte
   poked_first s offset byte is = changed_first s (set (get_or bytes s []) offset byte) is ∙ over order.slots is
     where
-    over : (ss : List ℕ) → slice_get ss 0 ≡ Some s → overwritten (entries_of tags bytes ss) (set (get_or bytes s []) offset byte) ≡ poked (entries_of tags bytes ss) offset byte
-    over [] is = refl
-    over (y ∷ ss) is = let e : y ≡ s = cc in ap (λ x. dirty_entry (tag_at tags y).line (set (get_or bytes x []) offset byte) ∷ entries_of tags bytes ss) (sym e)
+      over : (ss : List ℕ) → slice_get ss 0 ≡ Some s → overwritten (entries_of tags bytes ss) (set (get_or bytes s []) offset byte) ≡ poked (entries_of tags bytes ss) offset byte
+      over [] is = refl
+      over (y ∷ ss) is = let e : y ≡ s = cc in ap (λ x. dirty_entry (tag_at tags y).line (set (get_or bytes x []) offset byte) ∷ entries_of tags bytes ss) (sym e)
 
   full_test : ways ≤ length order.slots → nat_lt (length (entries_of tags bytes order.slots)) ways ≡ false
   full_test full = rw length-map (le-ltb (length order.slots) ways full)
@@ -214,26 +214,26 @@ module _ {ways : ℕ} {order : Used} {tags : List Tag} {bytes : List (List ℕ)}
 
   pub victim_empty : last_of order.slots ≡ None → dirty_victim (record { ways = ways; lines = entries_of tags bytes order.slots }) ≡ None
   victim_empty is =
-    let none : last_of (entries_of tags bytes order.slots) ≡ None = last_of-map (entry_at tags bytes) order.slots ∙ ap (option_map (entry_at tags bytes)) is in
-    either (nat_lt (length (entries_of tags bytes order.slots)) ways) none
+      let none : last_of (entries_of tags bytes order.slots) ≡ None = last_of-map (entry_at tags bytes) order.slots ∙ ap (option_map (entry_at tags bytes)) is in
+      either (nat_lt (length (entries_of tags bytes order.slots)) ways) none
     where
-    either : (b : Bool) → last_of (entries_of tags bytes order.slots) ≡ None → (if b then None else if_dirty (last_of (entries_of tags bytes order.slots))) ≡ None
-    either true none = refl
-    either false none = ap if_dirty none
+      either : (b : Bool) → last_of (entries_of tags bytes order.slots) ≡ None → (if b then None else if_dirty (last_of (entries_of tags bytes order.slots))) ≡ None
+      either true none = refl
+      either false none = ap if_dirty none
 
   pub none_cleaned : last_of order.slots ≡ None → clean_last (entries_of tags bytes order.slots) ≡ entries_of tags bytes order.slots
   none_cleaned is = empty order.slots is
     where
-    empty : (ss : List ℕ) → last_of ss ≡ None → clean_last (entries_of tags bytes ss) ≡ entries_of tags bytes ss
-    empty [] is = refl
-    empty (y ∷ ss) is = let n : length (y ∷ ss) ≡ 0 = last_none_empty (y ∷ ss) is in absurd (omega arith)
+      empty : (ss : List ℕ) → last_of ss ≡ None → clean_last (entries_of tags bytes ss) ≡ entries_of tags bytes ss
+      empty [] is = refl
+      empty (y ∷ ss) is = let n : length (y ∷ ss) ≡ 0 = last_none_empty (y ∷ ss) is in absurd (omega arith)
 
   pub first_entry : (s : ℕ) → slice_get order.slots 0 ≡ Some s → slice_get (entries_of tags bytes order.slots) 0 ≡ Some (entry_at tags bytes s)
   first_entry s is = here order.slots is
     where
-    here : (ss : List ℕ) → slice_get ss 0 ≡ Some s → slice_get (entries_of tags bytes ss) 0 ≡ Some (entry_at tags bytes s)
-    here [] is = absurd (let k = is in cc)
-    here (y ∷ ss) is = let same : y ≡ s = cc in ap (λ x. Some (entry_at tags bytes x)) same
+      here : (ss : List ℕ) → slice_get ss 0 ≡ Some s → slice_get (entries_of tags bytes ss) 0 ≡ Some (entry_at tags bytes s)
+      here [] is = absurd (let k = is in cc)
+      here (y ∷ ss) is = let same : y ≡ s = cc in ap (λ x. Some (entry_at tags bytes x)) same
 
 -- a line is put into a slot
 module _ {ways : ℕ} {order : Used} {tags : List Tag} {bytes : List (List ℕ)} (stored : IsStored ways order tags bytes) (s line : ℕ) (b : List ℕ) (inside : s < ways) where
@@ -248,39 +248,39 @@ module _ {ways : ℕ} {order : Used} {tags : List Tag} {bytes : List (List ℕ)}
 
   pub stored_filled : entry_of (entries_of tags bytes order.slots) line ≡ None → IsStored ways (after_use order s) (set tags s (record { line = line; dirty = false })) (set bytes s b)
   stored_filled none =
-    let w = stored.ways_are in
-    record {
-      some = stored.some;
-      ways_are = w;
-      tagged = record {
-        len = rw length-set stored.tagged.len;
-        distinct = (has-removed order.slots s stored.tagged.distinct, distinct-removed order.slots s stored.tagged.distinct);
-        below = (omega arith, below-removed order.slots s order.ways stored.tagged.below);
-        unique = λ x y hx hy same. by_eq x s
-          (λ ex. by_eq y s (λ ey. ex ∙ sym ey)
-            (λ ney. absurd (none_slot tags bytes order.slots line none y (has_used order.slots s y hy ney)
+      let w = stored.ways_are in
+      record {
+        some = stored.some;
+        ways_are = w;
+        tagged = record {
+          len = rw length-set stored.tagged.len;
+          distinct = (has-removed order.slots s stored.tagged.distinct, distinct-removed order.slots s stored.tagged.distinct);
+          below = (omega arith, below-removed order.slots s order.ways stored.tagged.below);
+          unique = λ x y hx hy same. by_eq x s
+              (λ ex. by_eq y s (λ ey. ex ∙ sym ey)
+              (λ ney. absurd (none_slot tags bytes order.slots line none y (has_used order.slots s y hy ney)
               (sym (ap (λ (t : Tag). t.line) (filled_tag y ney)) ∙ sym same ∙ ap (λ z. (tag_at filled z).line) ex ∙ ap (λ (t : Tag). t.line) filled_here))))
-          (λ nex. by_eq y s
-            (λ ey. absurd (none_slot tags bytes order.slots line none x (has_used order.slots s x hx nex)
+              (λ nex. by_eq y s
+              (λ ey. absurd (none_slot tags bytes order.slots line none x (has_used order.slots s x hx nex)
               (sym (ap (λ (t : Tag). t.line) (filled_tag x nex)) ∙ same ∙ ap (λ z. (tag_at filled z).line) ey ∙ ap (λ (t : Tag). t.line) filled_here)))
-            (λ ney. stored.tagged.unique x y (has_used order.slots s x hx nex) (has_used order.slots s y hy ney)
+              (λ ney. stored.tagged.unique x y (has_used order.slots s x hx nex) (has_used order.slots s y hy ney)
               (sym (ap (λ (t : Tag). t.line) (filled_tag x nex)) ∙ same ∙ ap (λ (t : Tag). t.line) (filled_tag y ney))));
-      };
-      full = rw length-set stored.full;
-    }
+        };
+        full = rw length-set stored.full;
+      }
 
   pub filled_is : removed order.slots s ≡ (if nat_lt (length order.slots) ways then order.slots else but_last order.slots)
-    → entries_of (set tags s (record { line = line; dirty = false })) (set bytes s b) (s ∷ removed order.slots s) ≡ put_in (record { ways = ways; lines = entries_of tags bytes order.slots }) (clean_entry line b)
+      → entries_of (set tags s (record { line = line; dirty = false })) (set bytes s b) (s ∷ removed order.slots s) ≡ put_in (record { ways = ways; lines = entries_of tags bytes order.slots }) (clean_entry line b)
   filled_is others =
-    let n = stored.tagged.len in let w = stored.ways_are in let m = stored.full in
-    let out : has (removed order.slots s) s ≡ false = has-removed order.slots s stored.tagged.distinct in
-    let front : entry_at filled (set bytes s b) s ≡ clean_entry line b = entry_both tags bytes s (record { line = line; dirty = false }) b (omega arith) (omega arith) in
-    let rest : entries_of filled (set bytes s b) (removed order.slots s) ≡ entries_of tags bytes (removed order.slots s)
+      let n = stored.tagged.len in let w = stored.ways_are in let m = stored.full in
+      let out : has (removed order.slots s) s ≡ false = has-removed order.slots s stored.tagged.distinct in
+      let front : entry_at filled (set bytes s b) s ≡ clean_entry line b = entry_both tags bytes s (record { line = line; dirty = false }) b (omega arith) (omega arith) in
+      let rest : entries_of filled (set bytes s b) (removed order.slots s) ≡ entries_of tags bytes (removed order.slots s)
       = entries_same tags filled bytes (set bytes s b) (removed order.slots s) (λ x k. entry_both_other tags bytes s x (record { line = line; dirty = false }) b (has_apart (removed order.slots s) x s k out)) in
-    ap (λ z. z ∷ entries_of filled (set bytes s b) (removed order.slots s)) front
-    ∙ ap (λ l. clean_entry line b ∷ l) (rest ∙ ap (entries_of tags bytes) others ∙ kept (nat_lt (length order.slots) ways) refl)
+      ap (λ z. z ∷ entries_of filled (set bytes s b) (removed order.slots s)) front
+      ∙ ap (λ l. clean_entry line b ∷ l) (rest ∙ ap (entries_of tags bytes) others ∙ kept (nat_lt (length order.slots) ways) refl)
     where
-    kept : (r : Bool) → nat_lt (length order.slots) ways ≡ r → entries_of tags bytes (if r then order.slots else but_last order.slots)
-      ≡ (if nat_lt (length (entries_of tags bytes order.slots)) ways then entries_of tags bytes order.slots else but_last (entries_of tags bytes order.slots))
-    kept true t = rw (length-map, t) refl
-    kept false t = rw (length-map, t) (sym (but_last-map (entry_at tags bytes) order.slots))
+      kept : (r : Bool) → nat_lt (length order.slots) ways ≡ r → entries_of tags bytes (if r then order.slots else but_last order.slots)
+          ≡ (if nat_lt (length (entries_of tags bytes order.slots)) ways then entries_of tags bytes order.slots else but_last (entries_of tags bytes order.slots))
+      kept true t = rw (length-map, t) refl
+      kept false t = rw (length-map, t) (sym (but_last-map (entry_at tags bytes) order.slots))

@@ -47,39 +47,39 @@ has_apart ys s x t f e = not_both (has ys x) (ap (has ys) (sym e) ∙ t) f
 pub before_has : (from : ℕ) (ss : List ℕ) (s : ℕ) → has ss s ≡ true → has (from ∷ ss) (before from ss s) ≡ true
 before_has from [] s h = absurd (let k = h in cc)
 before_has from (y ∷ ss) s h =
-  by_eq y s (λ e. rw (eq-eqb y s e) (has_front from (y ∷ ss) from refl))
+    by_eq y s (λ e. rw (eq-eqb y s e) (has_front from (y ∷ ss) from refl))
     (λ apart. rw (ne_eqb y s apart)
-      (by_eq from (before y ss s) (λ e. has_front from (y ∷ ss) (before y ss s) e)
-        (λ away. has_past from (y ∷ ss) (before y ss s) away ∙ before_has y ss s (sym (has_past y ss s apart) ∙ h))))
+    (by_eq from (before y ss s) (λ e. has_front from (y ∷ ss) (before y ss s) e)
+    (λ away. has_past from (y ∷ ss) (before y ss s) away ∙ before_has y ss s (sym (has_past y ss s apart) ∙ h))))
 
 pub after_has : (ss : List ℕ) (s to : ℕ) → has ss s ≡ true → (after ss s to ≢ to) → has ss (after ss s to) ≡ true
 after_has [] s to h ne = absurd (let k = h in cc)
 after_has (y ∷ []) s to h ne =
-  by_eq y s (λ e. absurd (ne (rw (eq-eqb y s e) refl))) (λ apart. absurd (not_both (has (y ∷ []) s) h (has_past y [] s apart)))
+    by_eq y s (λ e. absurd (ne (rw (eq-eqb y s e) refl))) (λ apart. absurd (not_both (has (y ∷ []) s) h (has_past y [] s apart)))
 after_has (y ∷ z ∷ ss) s to h ne =
-  by_eq y s
+    by_eq y s
     (λ e. rw (eq-eqb y s e) (by_eq y z (λ k. has_front y (z ∷ ss) z k) (λ apart. has_past y (z ∷ ss) z apart ∙ has_front z ss z refl)))
     (λ apart. rw (ne_eqb y s apart) (
-      let rest : has (z ∷ ss) (after (z ∷ ss) s to) ≡ true = after_has (z ∷ ss) s to (sym (has_past y (z ∷ ss) s apart) ∙ h) (λ k. ne (rw (ne_eqb y s apart) k)) in
-      by_eq y (after (z ∷ ss) s to) (λ k. has_front y (z ∷ ss) (after (z ∷ ss) s to) k) (λ away. has_past y (z ∷ ss) (after (z ∷ ss) s to) away ∙ rest)))
+    let rest : has (z ∷ ss) (after (z ∷ ss) s to) ≡ true = after_has (z ∷ ss) s to (sym (has_past y (z ∷ ss) s apart) ∙ h) (λ k. ne (rw (ne_eqb y s apart) k)) in
+    by_eq y (after (z ∷ ss) s to) (λ k. has_front y (z ∷ ss) (after (z ∷ ss) s to) k) (λ away. has_past y (z ∷ ss) (after (z ∷ ss) s to) away ∙ rest)))
 
 pub has-removed_other : (ss : List ℕ) (s x : ℕ) → s ≢ x → has (removed ss s) x ≡ has ss x
 has-removed_other [] s x ne = refl
 has-removed_other (y ∷ ss) s x ne =
-  by_eq y s (λ e. rw (eq-eqb y s e) (sym (has_past y ss x (λ k. ne (sym e ∙ k)))))
+    by_eq y s (λ e. rw (eq-eqb y s e) (sym (has_past y ss x (λ k. ne (sym e ∙ k)))))
     (λ apart. rw (ne_eqb y s apart)
-      (by_eq y x (λ k. has_front y (removed ss s) x k ∙ sym (has_front y ss x k))
-        (λ away. has_past y (removed ss s) x away ∙ has-removed_other ss s x ne ∙ sym (has_past y ss x away))))
+    (by_eq y x (λ k. has_front y (removed ss s) x k ∙ sym (has_front y ss x k))
+    (λ away. has_past y (removed ss s) x away ∙ has-removed_other ss s x ne ∙ sym (has_past y ss x away))))
 
 pub has-removed : (ss : List ℕ) (s : ℕ) → IsDistinct ss → has (removed ss s) s ≡ false
 has-removed [] s d = refl
 has-removed (y ∷ ss) s d =
-  by_eq y s (λ e. rw (eq-eqb y s e, ← e) d.0) (λ apart. rw (ne_eqb y s apart) (has_past y (removed ss s) s apart ∙ has-removed ss s d.1))
+    by_eq y s (λ e. rw (eq-eqb y s e, ← e) d.0) (λ apart. rw (ne_eqb y s apart) (has_past y (removed ss s) s apart ∙ has-removed ss s d.1))
 
 pub distinct-removed : (ss : List ℕ) (s : ℕ) → IsDistinct ss → IsDistinct (removed ss s)
 distinct-removed [] s d = tt
 distinct-removed (y ∷ ss) s d =
-  by_eq y s (λ e. rw (eq-eqb y s e) d.1)
+    by_eq y s (λ e. rw (eq-eqb y s e) d.1)
     (λ apart. rw (ne_eqb y s apart) (has-removed_other ss s y (λ k. apart (sym k)) ∙ d.0, distinct-removed ss s d.1))
 
 pub below-removed : (ss : List ℕ) (s w : ℕ) → AllBelow ss w → AllBelow (removed ss s) w
@@ -89,7 +89,7 @@ below-removed (y ∷ ss) s w b = by_eq y s (λ e. rw (eq-eqb y s e) b.1) (λ apa
 pub length-removed : (ss : List ℕ) (s : ℕ) → has ss s ≡ true → length (removed ss s) + 1 ≡ length ss
 length-removed [] s h = absurd (let k = h in cc)
 length-removed (y ∷ ss) s h =
-  by_eq y s (λ e. rw (eq-eqb y s e) (omega arith))
+    by_eq y s (λ e. rw (eq-eqb y s e) (omega arith))
     (λ apart. rw (ne_eqb y s apart) (let r : length (removed ss s) + 1 ≡ length ss = length-removed ss s (sym (has_past y ss s apart) ∙ h) in omega arith))
 
 pub removed_none : (ss : List ℕ) (s : ℕ) → has ss s ≡ false → removed ss s ≡ ss
@@ -109,14 +109,14 @@ pub last_of-or : (w : ℕ) (ss : List ℕ) → last_or w ss ≢ w → last_of ss
 last_of-or w [] ne = absurd (ne refl)
 last_of-or w (y ∷ ss) ne = last_some y ss
   where
-  last_some : (y : ℕ) (ss : List ℕ) → last_of (y ∷ ss) ≡ Some (last_or y ss)
-  last_some y [] = refl
-  last_some y (z ∷ ss) = last_some z ss
+    last_some : (y : ℕ) (ss : List ℕ) → last_of (y ∷ ss) ≡ Some (last_or y ss)
+    last_some y [] = refl
+    last_some y (z ∷ ss) = last_some z ss
 
 pub more_behind : (y : ℕ) (ss : List ℕ) (s : ℕ) → has ss s ≡ true → more_recent (y ∷ ss) s ≡ Some (before y ss s)
 more_behind y [] s h = absurd (let k = h in cc)
 more_behind y (z ∷ ss) s h =
-  by_eq z s (λ e. rw (eq-eqb z s e) refl)
+    by_eq z s (λ e. rw (eq-eqb z s e) refl)
     (λ apart. rw (ne_eqb z s apart) (more_behind z ss s (sym (has_past z ss s apart) ∙ h)))
 
 pub more_absent : (y : ℕ) (ss : List ℕ) (s : ℕ) → has ss s ≡ false → more_recent (y ∷ ss) s ≡ None
@@ -132,16 +132,16 @@ more_none (y ∷ ss) s none = more_absent y ss s (not_past y ss s none)
 pub more_before : (w : ℕ) (ss : List ℕ) (s : ℕ) → IsDistinct ss → has ss s ≡ true → before w ss s ≢ w → more_recent ss s ≡ Some (before w ss s)
 more_before w [] s d h ne = absurd (let k = h in cc)
 more_before w (y ∷ ss) s d h ne =
-  by_eq y s (λ e. absurd (ne (rw (eq-eqb y s e) refl)))
+    by_eq y s (λ e. absurd (ne (rw (eq-eqb y s e) refl)))
     (λ apart. rw (ne_eqb y s apart) (more_behind y ss s (sym (has_past y ss s apart) ∙ h)))
 
 -- the most recent slot has none
 pub more_first : (w : ℕ) (ss : List ℕ) (s : ℕ) → IsDistinct ss → AllBelow ss w → has ss s ≡ true → before w ss s ≡ w → more_recent ss s ≡ None
 more_first w [] s d b h is = refl
 more_first w (y ∷ ss) s d b h is =
-  by_eq y s (λ e. more_absent y ss s (ap (has ss) (sym e) ∙ d.0))
+    by_eq y s (λ e. more_absent y ss s (ap (has ss) (sym e) ∙ d.0))
     (λ apart.
-      let k : has (y ∷ ss) (before y ss s) ≡ true = before_has y ss s (sym (has_past y ss s apart) ∙ h) in
-      let lt : before y ss s < w = has_below (y ∷ ss) w (before y ss s) b k in
-      let same : before y ss s ≡ w = rw (ne_eqb y s apart) at is in
-      absurd (omega arith))
+    let k : has (y ∷ ss) (before y ss s) ≡ true = before_has y ss s (sym (has_past y ss s apart) ∙ h) in
+    let lt : before y ss s < w = has_below (y ∷ ss) w (before y ss s) b k in
+    let same : before y ss s ≡ w = rw (ne_eqb y s apart) at is in
+    absurd (omega arith))

@@ -10,8 +10,9 @@ mod order;
 mod ring;
 mod slots;
 mod storage;
+#[cfg(test)]
+mod tests;
 
 pub use entry::Entry;
-pub use line_set::LineSet;
 pub use line_sets::LineSets;
 pub use order::Order;

@@ -13,7 +13,7 @@ use std::marker::Model;
 
 /// At most `ways` lines, in the order of their use. Each stands in a slot as long as it is kept.
 #[derive(Drop)]
-pub struct LineSet {
+pub(crate) struct LineSet {
     ways: u32,
     order: Order,
     tags: Vec<Tag>,
@@ -33,7 +33,7 @@ impl Model for LineSet {
 
 impl LineSet {
     /// No line, of 1 to 1,024.
-    pub fn new(alloc: Global, ways: u32) -> Result<LineSet, NoMemory>
+    pub(crate) fn new(alloc: Global, ways: u32) -> Result<LineSet, NoMemory>
         requires { IsWithin 1 1024 ways }
         ensures { IfOk result (λ set. set ≡ record { ways = ways; lines = [] }) }
     {
@@ -53,7 +53,7 @@ impl LineSet {
     }
 
     /// Whether the line is kept. It becomes the most recent.
-    pub fn touch(&mut self, line: u32) -> bool
+    pub(crate) fn touch(&mut self, line: u32) -> bool
         ensures found { result ≡ is_some (entry_of self.old.lines line) }
         ensures after { self.new ≡ with_lines self.old (touched self.old.lines line) }
     {
@@ -79,7 +79,7 @@ impl LineSet {
     }
 
     /// Copies the bytes of a line, and tells whether it is kept. The order of use stays.
-    pub fn copy_of(&self, line: u32, into: &mut Line) -> bool
+    pub(crate) fn copy_of(&self, line: u32, into: &mut Line) -> bool
         ensures { MatchOption (entry_of self.now.lines line) ((result ≡ false) × (into.new ≡ into.old)) (λ e. (result ≡ true) × (into.new ≡ e.bytes)) }
     {
         let Some(slot) = slot_of(&self.order, &self.tags, self.ways, line) else {
@@ -90,7 +90,7 @@ impl LineSet {
     }
 
     /// Puts a clean line in front that is not kept, in place of the least recent where the set is full.
-    pub fn put_in(&mut self, line: u32, bytes: &Line)
+    pub(crate) fn put_in(&mut self, line: u32, bytes: &Line)
         requires { entry_of self.old.lines line ≡ None }
         ensures { self.new ≡ with_lines self.old (put_in self.old (clean_entry line bytes.now)) }
     {
@@ -101,7 +101,7 @@ impl LineSet {
     }
 
     /// The line that is written below before another is put in: the least recent of a full set, if it is dirty.
-    pub fn dirty_victim(&self) -> Option<Entry>
+    pub(crate) fn dirty_victim(&self) -> Option<Entry>
         ensures { result ≡ dirty_victim self.now }
     {
         if self.order.len() < self.ways {
@@ -117,7 +117,7 @@ impl LineSet {
     }
 
     /// The least recent line is clean from now on.
-    pub fn clean_last(&mut self)
+    pub(crate) fn clean_last(&mut self)
         ensures { self.new ≡ with_lines self.old (clean_last self.old.lines) }
     {
         let Some(slot) = self.order.last() else {
@@ -127,7 +127,7 @@ impl LineSet {
     }
 
     /// The least recent dirty line.
-    pub fn last_dirty(&self) -> Option<Entry>
+    pub(crate) fn last_dirty(&self) -> Option<Entry>
         ensures { result ≡ last_dirty self.now.lines }
     {
         let Some(slot) = last_dirty_slot(&self.order, &self.tags) else {
@@ -137,7 +137,7 @@ impl LineSet {
     }
 
     /// The line is clean from now on, where it is kept.
-    pub fn clean(&mut self, line: u32)
+    pub(crate) fn clean(&mut self, line: u32)
         ensures { self.new ≡ with_lines self.old (clean_in self.old.lines line) }
     {
         let Some(slot) = slot_of(&self.order, &self.tags, self.ways, line) else {
@@ -147,7 +147,7 @@ impl LineSet {
     }
 
     /// A byte of the most recent line.
-    pub fn first_byte(&self, offset: u32) -> u8
+    pub(crate) fn first_byte(&self, offset: u32) -> u8
         requires some { 0 < length self.now.lines }
         requires inside { offset < 64 }
         ensures { IfSome (slice_get self.now.lines 0) (λ e. result ≡ slice_index e.bytes offset) }
@@ -157,7 +157,7 @@ impl LineSet {
     }
 
     /// Changes a byte of the most recent line, which is dirty from now on.
-    pub fn set_first_byte(&mut self, offset: u32, byte: u8)
+    pub(crate) fn set_first_byte(&mut self, offset: u32, byte: u8)
         requires some { 0 < length self.old.lines }
         requires inside { offset < 64 }
         ensures { self.new ≡ with_lines self.old (poked self.old.lines offset byte) }
@@ -168,7 +168,7 @@ impl LineSet {
     }
 
     /// Copies the bytes of the most recent line.
-    pub fn copy_first(&self, into: &mut Line)
+    pub(crate) fn copy_first(&self, into: &mut Line)
         requires { 0 < length self.now.lines }
         ensures { IfSome (slice_get self.now.lines 0) (λ e. into.new ≡ e.bytes) }
     {
@@ -177,7 +177,7 @@ impl LineSet {
     }
 
     /// Changes the bytes of the most recent line, which is dirty from now on.
-    pub fn set_first(&mut self, from: &Line)
+    pub(crate) fn set_first(&mut self, from: &Line)
         requires { 0 < length self.old.lines }
         ensures { self.new ≡ with_lines self.old (overwritten self.old.lines from.now) }
     {

@@ -8,5 +8,5 @@ returns-then-not-has-clause-others c = removed_none c.args.order.now.slots c.loo
 
 pub unreachable-requires : goal.unreachable-requires
 unreachable-requires c =
-  let all : c.loop-slot.slot ≤ length c.args.order.now.slots = covered c.loop-slot.slot c.args.order.now.slots c.loop-slot.invariant in
-  omega arith
+    let all : c.loop-slot.slot ≤ length c.args.order.now.slots = covered c.loop-slot.slot c.args.order.now.slots c.loop-slot.invariant in
+    omega arith

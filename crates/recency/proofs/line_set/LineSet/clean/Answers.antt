@@ -1,6 +1,5 @@
 use Rattle.std.proofs.Common.{◌≡◌, ◌∙◌, sym, ap, refl}
 use Rattle.recency.proofs.StoreLemmas.{tag_within, cleaned_slot, clean_none_in}
-
 use Rattle.recency.proofs.line_set.LineSet.clean.Goals as goal
 
 pub returns-in_default : goal.returns-in_default

@@ -13,12 +13,12 @@ tag_of-requires c = tag_within c.self.invariant c.in-Some.slot (last_has c.self.
 
 pub returns-then-not-tag_of : goal.returns-then-not-tag_of
 returns-then-not-tag_of c =
-  let n = c.len.ensures in
-  let full : c.self.inside.ways ≤ length c.self.inside.order.slots = omega arith in
-  rw (← c.self.view_is) (sym (victim_clean c.self.invariant c.in-Some.slot full (sym c.in-Some.ensures) (sym (ap (λ (t : Tag). t.dirty) c.tag_of.ensures) ∙ not-true c.tag_of.result.dirty c.if-not-tag_of.true)))
+    let n = c.len.ensures in
+    let full : c.self.inside.ways ≤ length c.self.inside.order.slots = omega arith in
+    rw (← c.self.view_is) (sym (victim_clean c.self.invariant c.in-Some.slot full (sym c.in-Some.ensures) (sym (ap (λ (t : Tag). t.dirty) c.tag_of.ensures) ∙ not-true c.tag_of.result.dirty c.if-not-tag_of.true)))
 
 pub returns : goal.returns
 returns c =
-  let n = c.len.ensures in
-  let full : c.self.inside.ways ≤ length c.self.inside.order.slots = omega arith in
-  rw (← c.self.view_is) (rw c.entry_in.ensures (sym (victim_dirty c.self.invariant c.in-Some.slot full (sym c.in-Some.ensures) (sym (ap (λ (t : Tag). t.dirty) c.tag_of.ensures) ∙ not-false c.tag_of.result.dirty c.if-not-tag_of.false))))
+    let n = c.len.ensures in
+    let full : c.self.inside.ways ≤ length c.self.inside.order.slots = omega arith in
+    rw (← c.self.view_is) (rw c.entry_in.ensures (sym (victim_dirty c.self.invariant c.in-Some.slot full (sym c.in-Some.ensures) (sym (ap (λ (t : Tag). t.dirty) c.tag_of.ensures) ∙ not-false c.tag_of.result.dirty c.if-not-tag_of.false))))

@@ -8,10 +8,10 @@ tag_of-requires c = tag_within c.self.invariant c.in-Some.slot (first_has c.self
 
 pub returns-in-Some-clause-first : goal.returns-in-Some-clause-first
 returns-in-Some-clause-first c = λ t.
-  rw (← c.self.view_is) (first_touched c.self.inside.tags.items c.self.inside.bytes.items c.self.inside.order.slots c.in-Some.slot c.args.line (sym c.in-Some.ensures)
+    rw (← c.self.view_is) (first_touched c.self.inside.tags.items c.self.inside.bytes.items c.self.inside.order.slots c.in-Some.slot c.args.line (sym c.in-Some.ensures)
     (sym (ap (λ t. t.line) c.tag_of.ensures) ∙ eqb-true _ _ t)).0
 
 pub returns-in-Some-clause-found : goal.returns-in-Some-clause-found
 returns-in-Some-clause-found c = λ t.
-  rw (← c.self.view_is) (first_touched c.self.inside.tags.items c.self.inside.bytes.items c.self.inside.order.slots c.in-Some.slot c.args.line (sym c.in-Some.ensures)
+    rw (← c.self.view_is) (first_touched c.self.inside.tags.items c.self.inside.bytes.items c.self.inside.order.slots c.in-Some.slot c.args.line (sym c.in-Some.ensures)
     (sym (ap (λ t. t.line) c.tag_of.ensures) ∙ eqb-true _ _ t)).1

@@ -20,5 +20,5 @@ returns-clause-found c = rw (← c.self.view_is, found_entry c.self.invariant c.
 
 pub returns-clause-after : goal.returns-clause-after
 returns-clause-after c =
-  rw (← c.self.view_is) (ap (λ l. record { ways = c.self.inside.ways; lines = l })
+    rw (← c.self.view_is) (ap (λ l. record { ways = c.self.inside.ways; lines = l })
     (rw c.use_slot.ensures (found_touched c.self.invariant c.in-Some.slot c.args.line c.in-Some.ensures.0 c.in-Some.ensures.1)))

@@ -13,25 +13,25 @@ unlink-requires-clause-after c = next_within c.self.invariant c.args.slot (rw (�
 
 pub invariant_of-self : goal.invariant_of-self
 invariant_of-self c =
-  let used : get_or c.self.inside.next.items c.args.slot 0 ≢ c.args.slot = λ e. c.if-link_of-slot.false (c.link_of.ensures ∙ e) in
-  let ring = drop_ring c.self.invariant c.args.slot (rw (← c.self.view_is) at c.requires) used in
-  let fell = count_fell c.self.invariant c.args.slot (rw (← c.self.view_is) at c.requires) used in
-  rw (c.unlink.ensures.next, c.unlink.ensures.prev) (linked_here _ _ _ _ _ _ ring (c.link_of-self-inside.ensures ∙ ap (λ l. get_or l c.self.inside.ways 0) c.unlink.ensures.next) (omega arith))
+    let used : get_or c.self.inside.next.items c.args.slot 0 ≢ c.args.slot = λ e. c.if-link_of-slot.false (c.link_of.ensures ∙ e) in
+    let ring = drop_ring c.self.invariant c.args.slot (rw (← c.self.view_is) at c.requires) used in
+    let fell = count_fell c.self.invariant c.args.slot (rw (← c.self.view_is) at c.requires) used in
+    rw (c.unlink.ensures.next, c.unlink.ensures.prev) (linked_here _ _ _ _ _ _ ring (c.link_of-self-inside.ensures ∙ ap (λ l. get_or l c.self.inside.ways 0) c.unlink.ensures.next) (omega arith))
 
 pub returns-clause-after : goal.returns-clause-after
 returns-clause-after c =
-  let ring = drop_ring c.self.invariant c.args.slot (rw (← c.self.view_is) at c.requires) (λ e. c.if-link_of-slot.false (c.link_of.ensures ∙ e)) in
-  rw (← c.self.view_is) (ap (λ l. record { ways = c.self.inside.ways; slots = l }) (rw c.unlink.ensures.next (slots_are _ _ _ _ ring)))
+    let ring = drop_ring c.self.invariant c.args.slot (rw (← c.self.view_is) at c.requires) (λ e. c.if-link_of-slot.false (c.link_of.ensures ∙ e)) in
+    rw (← c.self.view_is) (ap (λ l. record { ways = c.self.inside.ways; slots = l }) (rw c.unlink.ensures.next (slots_are _ _ _ _ ring)))
 
 pub returns-clause-absent : goal.returns-clause-absent
 returns-clause-absent c =
-  let ring = drop_ring c.self.invariant c.args.slot (rw (← c.self.view_is) at c.requires) (λ e. c.if-link_of-slot.false (c.link_of.ensures ∙ e)) in
-  rw (c.unlink.ensures.next, slots_are _ _ _ _ ring) (has-removed (slots_of c.self.inside.next.items c.self.inside.ways) c.args.slot c.self.invariant.ring.distinct)
+    let ring = drop_ring c.self.invariant c.args.slot (rw (← c.self.view_is) at c.requires) (λ e. c.if-link_of-slot.false (c.link_of.ensures ∙ e)) in
+    rw (c.unlink.ensures.next, slots_are _ _ _ _ ring) (has-removed (slots_of c.self.inside.next.items c.self.inside.ways) c.args.slot c.self.invariant.ring.distinct)
 
 pub returns-then-link_of-slot-clause-after : goal.returns-then-link_of-slot-clause-after
 returns-then-link_of-slot-clause-after c =
-  let out = not_in_use c.self.invariant c.args.slot (sym c.link_of.ensures ∙ c.if-link_of-slot.true) in
-  rw (← c.self.view_is) (ap (λ l. record { ways = c.self.inside.ways; slots = l }) (sym (removed_none (slots_of c.self.inside.next.items c.self.inside.ways) c.args.slot out)))
+    let out = not_in_use c.self.invariant c.args.slot (sym c.link_of.ensures ∙ c.if-link_of-slot.true) in
+    rw (← c.self.view_is) (ap (λ l. record { ways = c.self.inside.ways; slots = l }) (sym (removed_none (slots_of c.self.inside.next.items c.self.inside.ways) c.args.slot out)))
 
 pub returns-then-link_of-slot-clause-absent : goal.returns-then-link_of-slot-clause-absent
 returns-then-link_of-slot-clause-absent c = rw (← c.self.view_is) (not_in_use c.self.invariant c.args.slot (sym c.link_of.ensures ∙ c.if-link_of-slot.true))

@@ -7,4 +7,4 @@ returns-then-slot-self c = rw (← c.self.view_is) (sym (tail_none c.self.invari
 
 pub returns-else-slot-self : goal.returns-else-slot-self
 returns-else-slot-self c =
-  rw (← c.self.view_is) (ap Some c.link_of-slot.ensures ∙ sym (tail_some c.self.invariant (λ e. c.if-slot-self.false (c.link_of-slot.ensures ∙ e))))
+    rw (← c.self.view_is) (ap Some c.link_of-slot.ensures ∙ sym (tail_some c.self.invariant (λ e. c.if-slot-self.false (c.link_of-slot.ensures ∙ e))))
