@@ -29,7 +29,7 @@ Misses set line calls result after = MatchOption (dirty_victim set) (Brings set 
 abbrev pub TouchesSet : Kept → ℕ → List Call → Answer → List Entry → Type 0
 TouchesSet set line calls result after =
     MatchOption (entry_of set.lines line) (Misses set line calls result after)
-      (λ e. (calls ≡ []) × (result ≡ Ok tt) × (after ≡ touched set.lines line))
+    (λ e. (calls ≡ []) × (result ≡ Ok tt) × (after ≡ touched set.lines line))
 
 -- The counts after a touch that made these calls: one more hit where it made none, one more miss where its read was
 -- answered, and one more write-back where its write was.

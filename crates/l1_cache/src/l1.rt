@@ -11,7 +11,9 @@ ghost use Rattle.recency.specs.Steps.{next_dirty, with_clean, Flushes};
 ghost use Rattle.l1_cache.specs.FirstLevel.{lines_of};
 ghost use Rattle.l1_cache.specs.Touches.{Brings, Misses, Steps, Touches, Reads, Writes};
 
-use hier_types::{Errand, Geometry, L1Counts, LINE_BYTES, Layer, Line, LineNo, NoMemory, NoSpace, Port};
+use hier_types::{
+    Errand, Geometry, L1Counts, LINE_BYTES, Layer, Line, LineNo, NoMemory, NoSpace, Port,
+};
 use recency::{Entry, LineSets};
 use std::alloc::Global;
 use std::marker::Model;
@@ -47,7 +49,13 @@ fn raise(count: &mut u64)
 impl<B: Layer> L1<B> {
     /// No line is kept. The layer has the lines of the span; there are `sets` sets, a power of two up to 1,024, of 1 to
     /// 16 lines each. Where no memory is left, the layer is dropped.
-    pub fn new(alloc: Global, below: B, geometry: Geometry, sets: u32, ways: u32) -> Result<L1<B>, NoMemory>
+    pub fn new(
+        alloc: Global,
+        below: B,
+        geometry: Geometry,
+        sets: u32,
+        ways: u32,
+    ) -> Result<L1<B>, NoMemory>
         requires size { length (B.content below) ≡ 64 * geometry.pages }
         requires sets { IsPowerOfTwo 1024 sets }
         requires ways { IsWithin 1 16 ways }
@@ -338,6 +346,7 @@ impl<B: Layer> Port for L1<B> {
 
     fn poke(&mut self, at: u32, byte: u8) {
         let place = at - self.span.first();
-        self.sets.set_first_byte(place / LINE_BYTES, place % LINE_BYTES, byte);
+        self.sets
+            .set_first_byte(place / LINE_BYTES, place % LINE_BYTES, byte);
     }
 }

@@ -61,7 +61,13 @@ fn the_least_recent_line_leaves(rt: HostRuntime) {
 #[test]
 fn a_refused_touch_can_be_made_again(rt: HostRuntime) {
     let touches = [(0u32, None), (1, Some(9u8)), (2, None), (0, None)];
-    let rows = [(0u64, 0u32, 0u8), (1, 1, 0), (2, 2, 0), (3, 0, 0), (4, 0, 9)];
+    let rows = [
+        (0u64, 0u32, 0u8),
+        (1, 1, 0),
+        (2, 2, 0),
+        (3, 0, 0),
+        (4, 0, 9),
+    ];
     for (refused, stopped, below) in rows {
         let Ok(mut level) = two_ways(rt.alloc(), &[refused]) else {
             panic!(rt; "no memory");

@@ -15,8 +15,8 @@ invariant-loop-entry g l = record {
   later : g.B.Layer.stops l.fn.self.below ≤ g.B.Layer.stops l.self.below;
   clean : AreClean l.self.sets l.from;
   on : (result : Answer) (new : List Kept) (t : g.row.B.Denot)
-    → Makes g.B.Layer.did_read g.B.Layer.did_write l.self.below (Flushes result new l.self.sets) t
-    → Makes g.B.Layer.did_read g.B.Layer.did_write l.fn.self.below (Flushes result new l.fn.self.sets) t;
+      → Makes g.B.Layer.did_read g.B.Layer.did_write l.self.below (Flushes result new l.self.sets) t
+      → Makes g.B.Layer.did_read g.B.Layer.did_write l.fn.self.below (Flushes result new l.fn.self.sets) t;
 }
 
 abbrev pub decreases-loop-entry : goal.decreases-loop-entry

@@ -7,4 +7,4 @@ invariant_of-self g c = rw c.set_first.ensures (over_level c.self.invariant c.ar
 
 pub returns-clause-content : goal.returns-clause-content
 returns-clause-content g c =
-  rw (← c.self.view_is) (rw c.set_first.ensures (over_lines c.self.invariant c.args.line.0 (rw (← c.self.view_is) at c.requires.held) c.args.from.now (rw length-overlay at (rw (← c.self.view_is) at c.requires.inside))))
+    rw (← c.self.view_is) (rw c.set_first.ensures (over_lines c.self.invariant c.args.line.0 (rw (← c.self.view_is) at c.requires.held) c.args.from.now (rw length-overlay at (rw (← c.self.view_is) at c.requires.inside))))
