@@ -6,11 +6,11 @@ use Rattle.std.proofs.lemmas.Bool.{eq-eqb, ne_eqb, le-ltb}
 use Rattle.std.proofs.lemmas.List.{length-map}
 use Rattle.recency.specs.declared.entry.Entry.{Entry}
 use Rattle.recency.specs.declared.entry.Tag.{Tag}
-use Rattle.recency.specs.Uses.{Used, has, removed, last_of, but_last, IsDistinct, AllBelow}
+use Rattle.recency.specs.Uses.{Used, has, removed, last_of, but_last, more_recent, IsDistinct, AllBelow}
 use Rattle.recency.specs.Kept.{Kept, entry_of, without, touched, clean_entry, dirty_entry, cleaned, clean_last, clean_in, last_dirty, put_in, has_room, dirty_victim, if_dirty, overwritten, poked}
 use Rattle.recency.specs.Slots.{tag_at, entry_at, entries_of, IsTagged, IsStored, IsSlotOf}
 use Rattle.recency.proofs.UseLemmas.{by_eq, has_front, has_past, not_front, not_past, not_both, has_apart, has_below, has-removed, has-removed_other, distinct-removed, below-removed, removed_none}
-use Rattle.recency.proofs.SlotLemmas.{entries_same, slot_entry, slot_none, none_slot, last_of-map, but_last-map, last_has, last_none_empty}
+use Rattle.recency.proofs.SlotLemmas.{entries_same, slot_entry, slot_none, none_slot, last_of-map, but_last-map, last_has, last_none_empty, removed_last, more_has}
 
 get_or-any : {A : Type 0} (xs : List A) (i : ℕ) (d e : A) → i < length xs → get_or xs i d ≡ get_or xs i e
 get_or-any [] i d e lt = absurd (omega arith)
@@ -235,18 +235,92 @@ module _ {ways : ℕ} {order : Used} {tags : List Tag} {bytes : List (List ℕ)}
       here [] is = absurd (let k = is in cc)
       here (y ∷ ss) is = let same : y ≡ s = cc in ap (λ x. Some (entry_at tags bytes x)) same
 
+pub entries_count : (tags : List Tag) (bytes : List (List ℕ)) (ss : List ℕ) → length (entries_of tags bytes ss) ≡ length ss
+entries_count tags bytes ss = length-map ss (entry_at tags bytes)
+
+-- what is in use after a slot was dropped was in use before
+has_dropped : (ss : List ℕ) (s x : ℕ) → IsDistinct ss → has (removed ss s) x ≡ true → has ss x ≡ true
+has_dropped ss s x d h = sym (has-removed_other ss s x (λ e. not_both (has (removed ss s) s) (ap (has (removed ss s)) e ∙ h) (has-removed ss s d))) ∙ h
+
+without_absent : (tags : List Tag) (bytes : List (List ℕ)) (ss : List ℕ) (line : ℕ) → ((x : ℕ) → has ss x ≡ true → (tag_at tags x).line ≡ line → ⊥) → without (entries_of tags bytes ss) line ≡ entries_of tags bytes ss
+without_absent tags bytes [] line none = refl
+without_absent tags bytes (z ∷ ss) line none =
+    rw (ne_eqb (tag_at tags z).line line (none z (has_front z ss z refl)))
+    (ap (λ l. entry_at tags bytes z ∷ l) (without_absent tags bytes ss line (λ x k. none x (by_eq z x (λ q. has_front z ss x q) (λ ne. has_past z ss x ne ∙ k)))))
+
+last_of-cons : (x e : Entry) (es : List Entry) → last_of es ≡ Some e → last_of (x ∷ es) ≡ Some e
+last_of-cons x e [] is = absurd (let k = is in cc)
+last_of-cons x e (y ∷ es) is = is
+
+-- the last entry of another line stays the last
+last_without : (es : List Entry) (e : Entry) (line : ℕ) → last_of es ≡ Some e → e.line ≢ line → last_of (without es line) ≡ Some e
+last_without [] e line is ne = absurd (let k = is in cc)
+last_without (x ∷ []) e line is ne = let same : x ≡ e = cc in let other : x.line ≢ line = λ y. ne (sym (ap (λ z. z.line) same) ∙ y) in rw (ne_eqb x.line line other) is
+last_without (x ∷ y ∷ es) e line is ne =
+    by_eq x.line line (λ h. rw (eq-eqb x.line line h) is)
+    (λ apart. rw (ne_eqb x.line line apart) (last_of-cons x e (without (y ∷ es) line) (last_without (y ∷ es) e line is ne)))
+
+-- without the last slot the next more recent one is the last
+last_but_last : (ss : List ℕ) (s : ℕ) → IsDistinct ss → last_of ss ≡ Some s → last_of (but_last ss) ≡ more_recent ss s
+last_but_last [] s d is = absurd (let k = is in cc)
+last_but_last (y ∷ []) s d is = refl
+last_but_last (y ∷ z ∷ []) s d is = let same : z ≡ s = cc in rw (eq-eqb z s same) refl
+last_but_last (y ∷ z ∷ w ∷ ss) s d is =
+    let other : z ≢ s = λ e. not_both (has (w ∷ ss) z) (ap (has (w ∷ ss)) e ∙ last_has (w ∷ ss) s is) d.1.0 in
+    rw (ne_eqb z s other) (last_but_last (z ∷ w ∷ ss) s d.1 is)
+
+module _ {ways : ℕ} {order : Used} {tags : List Tag} {bytes : List (List ℕ)} (stored : IsStored ways order tags bytes) where
+  pub stored_dropped : (s : ℕ) → IsStored ways (record { ways = order.ways; slots = removed order.slots s }) tags bytes
+  stored_dropped s = record {
+      some = stored.some;
+      ways_are = stored.ways_are;
+      tagged = record {
+        len = stored.tagged.len;
+        distinct = distinct-removed order.slots s stored.tagged.distinct;
+        below = below-removed order.slots s order.ways stored.tagged.below;
+        unique = λ x y hx hy same. stored.tagged.unique x y (has_dropped order.slots s x stored.tagged.distinct hx) (has_dropped order.slots s y stored.tagged.distinct hy) same;
+      };
+      full = stored.full;
+    }
+
+  pub none_left : (s line : ℕ) → has order.slots s ≡ true → (tag_at tags s).line ≡ line → entry_of (entries_of tags bytes (removed order.slots s)) line ≡ None
+  none_left s line h at = slot_none tags bytes (removed order.slots s) line (λ x k is.
+    not_both (has (removed order.slots s) s) (ap (has (removed order.slots s)) (sym (only_slot stored s line h at x (has_dropped order.slots s x stored.tagged.distinct k) is)) ∙ k) (has-removed order.slots s stored.tagged.distinct))
+
+  pub found_without : (s line : ℕ) → has order.slots s ≡ true → (tag_at tags s).line ≡ line → entries_of tags bytes (removed order.slots s) ≡ without (entries_of tags bytes order.slots) line
+  found_without s line h at = sym (slot_entry tags bytes order.slots s line stored.tagged.distinct h at (only_slot stored s line h at)).1
+
+  pub none_without : (line : ℕ) → IsSlotOf order.slots tags line None → entries_of tags bytes order.slots ≡ without (entries_of tags bytes order.slots) line
+  none_without line none = sym (without_absent tags bytes order.slots line none)
+
+  pub oldest_none : (line : ℕ) → last_of order.slots ≡ None → last_of (without (entries_of tags bytes order.slots) line) ≡ None
+  oldest_none line is = empty order.slots is
+    where
+    empty : (ss : List ℕ) → last_of ss ≡ None → last_of (without (entries_of tags bytes ss) line) ≡ None
+    empty [] is = refl
+    empty (y ∷ ss) is = let n : length (y ∷ ss) ≡ 0 = last_none_empty (y ∷ ss) is in absurd (omega arith)
+
+  pub oldest_is_last : (s line : ℕ) → last_of order.slots ≡ Some s → (tag_at tags s).line ≢ line → last_of (without (entries_of tags bytes order.slots) line) ≡ Some (entry_at tags bytes s)
+  oldest_is_last s line is ne =
+    last_without (entries_of tags bytes order.slots) (entry_at tags bytes s) line (last_of-map (entry_at tags bytes) order.slots ∙ ap (option_map (entry_at tags bytes)) is) ne
+
+  pub oldest_is_next : (s line : ℕ) → last_of order.slots ≡ Some s → (tag_at tags s).line ≡ line → last_of (without (entries_of tags bytes order.slots) line) ≡ option_map (entry_at tags bytes) (more_recent order.slots s)
+  oldest_is_next s line is at =
+    ap last_of (sym (found_without s line (last_has order.slots s is) at) ∙ ap (entries_of tags bytes) (removed_last order.slots s stored.tagged.distinct is))
+    ∙ last_of-map (entry_at tags bytes) (but_last order.slots) ∙ ap (option_map (entry_at tags bytes)) (last_but_last order.slots s stored.tagged.distinct is)
+
 -- a line is put into a slot
-module _ {ways : ℕ} {order : Used} {tags : List Tag} {bytes : List (List ℕ)} (stored : IsStored ways order tags bytes) (s line : ℕ) (b : List ℕ) (inside : s < ways) where
+module _ {ways : ℕ} {order : Used} {tags : List Tag} {bytes : List (List ℕ)} (stored : IsStored ways order tags bytes) (s line : ℕ) (b : List ℕ) (dirty : Bool) (inside : s < ways) where
   abbrev filled : List Tag
-  filled = set tags s (record { line = line; dirty = false })
+  filled = set tags s (record { line = line; dirty = dirty })
 
   filled_tag : (x : ℕ) → x ≢ s → tag_at filled x ≡ tag_at tags x
-  filled_tag x ne = get_or-set_other tags s x (record { line = line; dirty = false }) (record { line = 0; dirty = false }) ne
+  filled_tag x ne = get_or-set_other tags s x (record { line = line; dirty = dirty }) (record { line = 0; dirty = false }) ne
 
-  filled_here : tag_at filled s ≡ record { line = line; dirty = false }
-  filled_here = let n = stored.tagged.len in let w = stored.ways_are in get_or-set_same tags s (record { line = line; dirty = false }) (record { line = 0; dirty = false }) (omega arith)
+  filled_here : tag_at filled s ≡ record { line = line; dirty = dirty }
+  filled_here = let n = stored.tagged.len in let w = stored.ways_are in get_or-set_same tags s (record { line = line; dirty = dirty }) (record { line = 0; dirty = false }) (omega arith)
 
-  pub stored_filled : entry_of (entries_of tags bytes order.slots) line ≡ None → IsStored ways (after_use order s) (set tags s (record { line = line; dirty = false })) (set bytes s b)
+  pub stored_filled : entry_of (entries_of tags bytes order.slots) line ≡ None → IsStored ways (after_use order s) (set tags s (record { line = line; dirty = dirty })) (set bytes s b)
   stored_filled none =
       let w = stored.ways_are in
       record {
@@ -270,15 +344,15 @@ module _ {ways : ℕ} {order : Used} {tags : List Tag} {bytes : List (List ℕ)}
       }
 
   pub filled_is : removed order.slots s ≡ (if nat_lt (length order.slots) ways then order.slots else but_last order.slots)
-      → entries_of (set tags s (record { line = line; dirty = false })) (set bytes s b) (s ∷ removed order.slots s) ≡ put_in (record { ways = ways; lines = entries_of tags bytes order.slots }) (clean_entry line b)
+      → entries_of (set tags s (record { line = line; dirty = dirty })) (set bytes s b) (s ∷ removed order.slots s) ≡ put_in (record { ways = ways; lines = entries_of tags bytes order.slots }) (record { line = line; bytes = b; dirty = dirty })
   filled_is others =
       let n = stored.tagged.len in let w = stored.ways_are in let m = stored.full in
       let out : has (removed order.slots s) s ≡ false = has-removed order.slots s stored.tagged.distinct in
-      let front : entry_at filled (set bytes s b) s ≡ clean_entry line b = entry_both tags bytes s (record { line = line; dirty = false }) b (omega arith) (omega arith) in
+      let front : entry_at filled (set bytes s b) s ≡ record { line = line; bytes = b; dirty = dirty } = entry_both tags bytes s (record { line = line; dirty = dirty }) b (omega arith) (omega arith) in
       let rest : entries_of filled (set bytes s b) (removed order.slots s) ≡ entries_of tags bytes (removed order.slots s)
-      = entries_same tags filled bytes (set bytes s b) (removed order.slots s) (λ x k. entry_both_other tags bytes s x (record { line = line; dirty = false }) b (has_apart (removed order.slots s) x s k out)) in
+      = entries_same tags filled bytes (set bytes s b) (removed order.slots s) (λ x k. entry_both_other tags bytes s x (record { line = line; dirty = dirty }) b (has_apart (removed order.slots s) x s k out)) in
       ap (λ z. z ∷ entries_of filled (set bytes s b) (removed order.slots s)) front
-      ∙ ap (λ l. clean_entry line b ∷ l) (rest ∙ ap (entries_of tags bytes) others ∙ kept (nat_lt (length order.slots) ways) refl)
+      ∙ ap (λ l. record { line = line; bytes = b; dirty = dirty } ∷ l) (rest ∙ ap (entries_of tags bytes) others ∙ kept (nat_lt (length order.slots) ways) refl)
     where
       kept : (r : Bool) → nat_lt (length order.slots) ways ≡ r → entries_of tags bytes (if r then order.slots else but_last order.slots)
           ≡ (if nat_lt (length (entries_of tags bytes order.slots)) ways then entries_of tags bytes order.slots else but_last (entries_of tags bytes order.slots))
