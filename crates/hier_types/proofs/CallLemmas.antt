@@ -3,6 +3,11 @@ use Rattle.std.proofs.Common.{◌≡◌, ℕ, List, [], ◌∷◌, Result, refl}
 use Rattle.hier_types.specs.Calls.{Answer, Call, Read, Write, Makes}
 use Rattle.hier_types.specs.declared.faults.NoSpace.{NoSpace}
 
+-- nothing was made
+pub Makes-none : {B : Type 0} {did_read : B → ℕ → Result (List ℕ) NoSpace → B → Type 0} {did_write : B → ℕ → List ℕ → Answer → B → Type 0}
+    {s : B} {Gives : List Call → Type 0} → Gives [] → Makes did_read did_write s Gives s
+Makes-none gives = record { calls = []; made = refl; gives = gives }
+
 -- one read was made
 pub Makes-read : {B : Type 0} {did_read : B → ℕ → Result (List ℕ) NoSpace → B → Type 0} {did_write : B → ℕ → List ℕ → Answer → B → Type 0}
     {s t : B} {Gives : List Call → Type 0} (line : ℕ) (a : Result (List ℕ) NoSpace) → did_read s line a t → Gives (Read line a ∷ []) → Makes did_read did_write s Gives t
@@ -18,3 +23,8 @@ pub Makes-write_then : {B : Type 0} {did_read : B → ℕ → Result (List ℕ) 
     {s m t : B} {Rest Gives : List Call → Type 0} (line : ℕ) (bytes : List ℕ) (a : Answer) → did_write s line bytes a m → Makes did_read did_write m Rest t
     → ((calls : List Call) → Rest calls → Gives (Write line bytes a ∷ calls)) → Makes did_read did_write s Gives t
 Makes-write_then {m = m} line bytes a did rest gives = record { calls = Write line bytes a ∷ rest.calls; made = (m, did, rest.made); gives = gives rest.calls rest.gives }
+
+-- the same calls, of which something else holds
+pub Makes-weaker : {B : Type 0} {did_read : B → ℕ → Result (List ℕ) NoSpace → B → Type 0} {did_write : B → ℕ → List ℕ → Answer → B → Type 0}
+    {s t : B} {Rest Gives : List Call → Type 0} → Makes did_read did_write s Rest t → ((calls : List Call) → Rest calls → Gives calls) → Makes did_read did_write s Gives t
+Makes-weaker rest gives = record { calls = rest.calls; made = rest.made; gives = gives rest.calls rest.gives }

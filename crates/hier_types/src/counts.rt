@@ -1,6 +1,23 @@
-// What a memory of pages counts.
+// What cache levels and a memory of pages count. A count that has reached the end of its 64 bits stays there.
 
-/// How often a memory of pages was asked, and how often it moved what it keeps. A count stands still at its type's end.
+/// The touches of a first level that found their line and those that did not, and the lines that misses wrote below.
+#[derive(Clone, Copy, Debug, Default, PartialEq, Eq)]
+pub struct L1Counts {
+    pub hits: u64,
+    pub misses: u64,
+    pub write_backs: u64,
+}
+
+/// The reads and writes of a second level, and how many of each found their line.
+#[derive(Clone, Copy, Debug, Default, PartialEq, Eq)]
+pub struct L2Counts {
+    pub reads: u64,
+    pub read_hits: u64,
+    pub writes: u64,
+    pub write_hits: u64,
+}
+
+/// How often a memory of pages was asked, and how often it moved what it keeps.
 #[derive(Clone, Copy, Debug, Default, PartialEq, Eq)]
 pub struct PageCounts {
     /// Lines that were read.

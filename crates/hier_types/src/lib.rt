@@ -6,6 +6,7 @@
 
 mod beats;
 mod counts;
+mod errand;
 mod faults;
 mod geometry;
 mod layer;
@@ -20,7 +21,8 @@ mod tests;
 mod units;
 
 pub use beats::{Beat, BeatWord};
-pub use counts::{PageCounts, Totals};
+pub use counts::{L1Counts, L2Counts, PageCounts, Totals};
+pub use errand::Errand;
 pub use faults::{Failed, NoMemory, NoSpace, ShelfFault};
 pub use geometry::Geometry;
 pub use layer::Layer;

@@ -1,0 +1,97 @@
+-- The bytes of a level, and the held line among them.
+use Rattle.std.proofs.Common.{◌≡◌, ◌<◌, ◌≤◌, ◌+◌, ◌-◌, ◌*◌, ◌/◌, ◌%◌, ℕ, Bool, true, false, List, [], ◌∷◌, Some, None, length, length-set, set, get_or, refl, sym, ap, ◌∙◌, subst, arith, Option}
+use Rattle.std.specs.List.{slice_get}
+use Rattle.std.specs.Option.{IfSome, option_map, MatchOption}
+use Rattle.std.proofs.lemmas.Option.{get_or_from_slice_get, slice_get-get_or}
+use Rattle.hier_types.specs.Lines.{AreLines, flatten}
+use Rattle.hier_types.specs.Span.{Span, first, Has, line_at}
+use Rattle.hier_types.proofs.LineLemmas.{length-flatten, byte_of_line, flatten-set, line_of_lines}
+use Rattle.recency.specs.declared.entry.Entry.{Entry}
+use Rattle.recency.specs.Kept.{Kept, overwritten, poked}
+use Rattle.recency.specs.Levels.{set_of, with_set, kept_of, bytes_or, overlay, IsSound, IsFirst, FirstHas}
+use Rattle.recency.proofs.LevelLemmas.{length-overlay, slice_get-overlay, whole_overlay}
+use Rattle.recency.proofs.FirstLemmas.{first_shown, over_sound, over_written, over_first}
+use Rattle.l1_cache.specs.FirstLevel.{IsLevel}
+
+poked_over : (es : List Entry) (e : Entry) (offset byte : ℕ) → slice_get es 0 ≡ Some e → poked es offset byte ≡ overwritten es (set e.bytes offset byte)
+poked_over [] e offset byte is = refl
+poked_over (f ∷ es) e offset byte is = let same : f ≡ e = cc in ap (λ (z : Entry). overwritten (f ∷ es) (set z.bytes offset byte)) same
+
+-- one byte for each address of the span
+pub sized : {lines : List (List ℕ)} {sets : List Kept} {held : Option ℕ} {span : Span} (level : IsLevel lines sets held span) → length (flatten (overlay lines sets)) ≡ 4096 * span.pages
+sized {lines} {sets} level =
+    let size = level.size in
+    omega (arith, length-flatten (overlay lines sets) (whole_overlay lines sets level.sound), length-overlay lines sets)
+
+-- the held line
+module _ {lines : List (List ℕ)} {sets : List Kept} {held : Option ℕ} {span : Span} (level : IsLevel lines sets held span) (line : ℕ) (is : held ≡ Some line) where
+  pub held_first : IsFirst sets line
+  held_first = rw is at level.first
+
+  pub held_shown : line < length lines → slice_get (overlay lines sets) line ≡ Some held_first.first.bytes
+  held_shown inside = first_shown lines sets line held_first.first inside held_first.here held_first.line_is
+
+  pub held_full : line < length lines → length held_first.first.bytes ≡ 64
+  held_full inside = line_of_lines (overlay lines sets) line held_first.first.bytes (whole_overlay lines sets level.sound) (held_shown inside)
+
+  pub over_level : (bytes : List ℕ) → length bytes ≡ 64 → IsLevel lines (with_set sets line (overwritten (set_of sets line).lines bytes)) held span
+  over_level bytes full = record {
+    sound = over_sound lines sets line bytes level.sound full;
+    first = rw is (over_first lines sets line bytes level.sound held_first);
+    size = level.size;
+  }
+
+  pub over_lines : (bytes : List ℕ) → line < length lines → overlay lines (with_set sets line (overwritten (set_of sets line).lines bytes)) ≡ set (overlay lines sets) line bytes
+  over_lines bytes inside = over_written lines sets line bytes level.sound held_first inside
+
+  pub copied : (bytes : List ℕ) → line < length lines → IfSome (slice_get (set_of sets line).lines 0) (λ e. bytes ≡ e.bytes) → slice_get (overlay lines sets) line ≡ Some bytes
+  copied bytes inside is = held_shown inside ∙ ap Some (sym (rw held_first.here at is))
+
+-- an address of the held line
+module _ {lines : List (List ℕ)} {sets : List Kept} {held : Option ℕ} {span : Span} (level : IsLevel lines sets held span) (at : ℕ) (has : Has span at) (is : held ≡ Some (line_at span at)) where
+  at_inside : line_at span at < length lines
+  at_inside = let size = level.size in let low = has.0 in let high = has.1 in omega arith
+
+  bytes_at : get_or (overlay lines sets) (line_at span at) [] ≡ (held_first level (line_at span at) is).first.bytes
+  bytes_at = get_or_from_slice_get (overlay lines sets) (line_at span at) _ [] (held_shown level (line_at span at) is at_inside)
+
+  pub peeked : (byte : ℕ) → IfSome (slice_get (set_of sets (line_at span at)).lines 0) (λ e. byte ≡ get_or e.bytes ((at - first span) % 64) 0) → byte ≡ get_or (flatten (overlay lines sets)) (at - first span) 0
+  peeked byte h =
+      let here = (held_first level (line_at span at) is).here in
+      (rw here at h) ∙ sym (byte_of_line (overlay lines sets) (line_at span at) ((at - first span) % 64) (at - first span) (whole_overlay lines sets level.sound)
+      (omega (arith, at_inside, length-overlay lines sets)) (omega arith) (omega arith) ∙ ap (λ bytes. get_or bytes ((at - first span) % 64) 0) bytes_at)
+
+  poked_as : (byte : ℕ) → poked (set_of sets (line_at span at)).lines ((at - first span) % 64) byte ≡ overwritten (set_of sets (line_at span at)).lines (set (get_or (overlay lines sets) (line_at span at) []) ((at - first span) % 64) byte)
+  poked_as byte =
+      poked_over (set_of sets (line_at span at)).lines (held_first level (line_at span at) is).first ((at - first span) % 64) byte (held_first level (line_at span at) is).here
+      ∙ ap (λ bytes. overwritten (set_of sets (line_at span at)).lines (set bytes ((at - first span) % 64) byte)) (sym bytes_at)
+
+  pub poked_bytes : (byte : ℕ) → flatten (overlay lines (with_set sets (line_at span at) (poked (set_of sets (line_at span at)).lines ((at - first span) % 64) byte))) ≡ set (flatten (overlay lines sets)) (at - first span) byte
+  poked_bytes byte =
+      ap (λ es. flatten (overlay lines (with_set sets (line_at span at) es))) (poked_as byte)
+      ∙ ap flatten (over_lines level (line_at span at) is (set (get_or (overlay lines sets) (line_at span at) []) ((at - first span) % 64) byte) at_inside)
+      ∙ flatten-set (overlay lines sets) (line_at span at) ((at - first span) % 64) (at - first span) byte (whole_overlay lines sets level.sound)
+      (omega (arith, at_inside, length-overlay lines sets)) (omega arith) (omega arith)
+
+  pub poked_level : (byte : ℕ) → IsLevel lines (with_set sets (line_at span at) (poked (set_of sets (line_at span at)).lines ((at - first span) % 64) byte)) held span
+  poked_level byte =
+      subst (λ es. IsLevel lines (with_set sets (line_at span at) es) held span) (sym (poked_as byte))
+      (over_level level (line_at span at) is (set (get_or (overlay lines sets) (line_at span at) []) ((at - first span) % 64) byte)
+      (rw (length-set, bytes_at) (held_full level (line_at span at) is at_inside)))
+
+-- what is copied from a kept line, and from below
+pub viewed : (lines : List (List ℕ)) (sets : List Kept) (line : ℕ) → line < length lines → (found : Bool) (old bytes : List ℕ)
+    → MatchOption (kept_of sets line) ((found ≡ false) × (bytes ≡ old)) (λ e. (found ≡ true) × (bytes ≡ e.bytes)) → found ≡ true → slice_get (overlay lines sets) line ≡ Some bytes
+viewed lines sets line inside found old bytes copied t = slice_get-overlay lines sets line ∙ go (kept_of sets line) refl copied
+  where
+    go : (kept : Option Entry) → kept_of sets line ≡ kept → MatchOption kept ((found ≡ false) × (bytes ≡ old)) (λ e. (found ≡ true) × (bytes ≡ e.bytes)) → option_map (bytes_or (kept_of sets line)) (slice_get lines line) ≡ Some bytes
+    go None is copied = absurd (let k : true ≡ false = sym t ∙ copied.0 in cc)
+    go (Some e) is copied = ap (λ k. option_map (bytes_or k) (slice_get lines line)) is ∙ ap (option_map (bytes_or (Some e))) (slice_get-get_or lines line [] inside) ∙ ap Some (sym copied.1)
+
+pub viewed_below : (lines : List (List ℕ)) (sets : List Kept) (line : ℕ) (found : Bool) (old bytes below : List ℕ)
+    → MatchOption (kept_of sets line) ((found ≡ false) × (bytes ≡ old)) (λ e. (found ≡ true) × (bytes ≡ e.bytes)) → found ≡ false → slice_get lines line ≡ Some below → slice_get (overlay lines sets) line ≡ Some below
+viewed_below lines sets line found old bytes below copied f there = slice_get-overlay lines sets line ∙ go (kept_of sets line) refl copied
+  where
+    go : (kept : Option Entry) → kept_of sets line ≡ kept → MatchOption kept ((found ≡ false) × (bytes ≡ old)) (λ e. (found ≡ true) × (bytes ≡ e.bytes)) → option_map (bytes_or (kept_of sets line)) (slice_get lines line) ≡ Some below
+    go None is copied = ap (λ k. option_map (bytes_or k) (slice_get lines line)) is ∙ ap (option_map (bytes_or None)) there
+    go (Some e) is copied = absurd (let k : true ≡ false = sym copied.0 ∙ f in cc)

@@ -1,0 +1,9 @@
+pub mod EntryLemmas
+pub mod FirstLemmas
+pub mod FlushLemmas
+pub mod LevelLemmas
+pub mod ListLemmas
+pub mod RingLemmas
+pub mod SlotLemmas
+pub mod StoreLemmas
+pub mod UseLemmas

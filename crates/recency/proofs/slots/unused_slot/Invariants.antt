@@ -1,0 +1,6 @@
+use Rattle.std.proofs.Common.{◌≡◌, ◌<◌, ℕ, true}
+use Rattle.recency.specs.Uses.{has}
+use Rattle.recency.proofs.slots.unused_slot.Given as goal
+
+abbrev pub invariant-loop-slot : goal.invariant-loop-slot
+invariant-loop-slot l = (s : ℕ) → s < l.slot → has l.order.slots s ≡ true

@@ -1,0 +1,242 @@
+// The sets of a level.
+ghost use Rattle.std.specs.Prelude.{◌≡◌, ◌<◌, ◌%◌, ℕ, [], ◌∷◌, true, false, None, length, is_some, replicate, slice_get, slice_index, IfOk, IfSome, MatchOption};
+ghost use Rattle.hier_types.specs.Settings.{IsWithin, IsPowerOfTwo};
+ghost use Rattle.recency.specs.Uses.{last_of};
+ghost use Rattle.recency.specs.Kept.{with_lines, without, touched, put_in, dirty_victim, clean_last, last_dirty, clean_entry, overwritten, poked};
+ghost use Rattle.recency.specs.Levels.{set_at, set_of, with_set, kept_of, IsMasked};
+ghost use Rattle.recency.specs.Steps.{next_dirty, with_clean};
+
+use crate::entry::Entry;
+use crate::line_set::LineSet;
+use hier_types::{Line, NoMemory};
+use std::alloc::Global;
+use std::marker::Model;
+
+/// A power of two of sets. A line is kept in the set of its number modulo the number of sets.
+#[derive(Drop)]
+pub struct LineSets {
+    sets: Vec<LineSet>,
+    mask: u32,
+}
+
+impl Model for LineSets {
+    ghost use Rattle.std.specs.Prelude.{List};
+    ghost use Rattle.recency.specs.Kept.{Kept};
+    ghost use Rattle.recency.specs.Levels.{IsMasked};
+
+    ghost Value = { List Kept };
+
+    ghost view = { λ a. a.sets.items };
+
+    ghost invariant = { λ a. IsMasked a.sets.items a.mask };
+}
+
+/// So many sets with no line.
+fn empty_sets(alloc: Global, sets: u32, ways: u32) -> Result<Vec<LineSet>, NoMemory>
+    requires { IsWithin 1 1024 ways }
+    ensures { IfOk result (λ made. made.items ≡ replicate sets (record { ways = ways; lines = [] })) }
+{
+    let mut made = Vec::with_capacity(alloc, sets as usize)?;
+    for count in 0..sets {
+        made.push(LineSet::new(alloc, ways)?)?;
+    }
+    Ok(made)
+}
+
+/// The index of a line's set.
+fn index_of(sets: &Vec<LineSet>, mask: u32, line: u32) -> u32
+    requires { IsMasked sets.now.items mask }
+    ensures index { result ≡ line % length sets.now.items }
+    ensures inside { result < length sets.now.items }
+{
+    line & mask
+}
+
+/// Puts an entry in front of a set, in place of an older one of its line, where there is room.
+fn put_before(set: &mut LineSet, entry: &Entry)
+    requires { length (without set.old.lines entry.now.line) < set.old.ways }
+    ensures { set.new ≡ with_lines set.old (entry.now ∷ without set.old.lines entry.now.line) }
+{
+    set.remove(entry.line);
+    set.put_in(entry.line, &entry.bytes, entry.dirty);
+}
+
+impl LineSets {
+    /// Sets with no line: `sets` of them, a power of two up to 4,096, of 1 to 1,024 lines each.
+    pub fn new(alloc: Global, sets: u32, ways: u32) -> Result<LineSets, NoMemory>
+        requires sets { IsPowerOfTwo 4096 sets }
+        requires ways { IsWithin 1 1024 ways }
+        ensures { IfOk result (λ made. made ≡ replicate sets (record { ways = ways; lines = [] })) }
+    {
+        Ok(LineSets {
+            sets: empty_sets(alloc, sets, ways)?,
+            mask: sets - 1,
+        })
+    }
+
+    /// Whether the line is kept. It becomes the most recent of its set.
+    pub fn touch(&mut self, line: u32) -> bool
+        ensures found { result ≡ is_some (kept_of self.old line) }
+        ensures after { self.new ≡ with_set self.old line (touched (set_of self.old line).lines line) }
+    {
+        let index = index_of(&self.sets, self.mask, line);
+        self.sets[index as usize].touch(line)
+    }
+
+    /// Copies the bytes of a line, and tells whether it is kept. The order of use stays.
+    pub fn copy_of(&self, line: u32, into: &mut Line) -> bool
+        ensures { MatchOption (kept_of self.now line) ((result ≡ false) × (into.new ≡ into.old)) (λ e. (result ≡ true) × (into.new ≡ e.bytes)) }
+    {
+        let index = index_of(&self.sets, self.mask, line);
+        self.sets[index as usize].copy_of(line, into)
+    }
+
+    /// Puts a clean line in front of its set that is not kept, in place of the least recent where the set is full.
+    pub fn put_in(&mut self, line: u32, bytes: &Line)
+        requires { kept_of self.old line ≡ None }
+        ensures { self.new ≡ with_set self.old line (put_in (set_of self.old line) (clean_entry line bytes.now)) }
+    {
+        let index = index_of(&self.sets, self.mask, line);
+        self.sets[index as usize].put_in(line, bytes, false);
+    }
+
+    /// Puts an entry in front of its set, in place of an older one of its line, where there is room.
+    pub fn put_front(&mut self, entry: &Entry)
+        requires { length (without (set_of self.old entry.now.line).lines entry.now.line) < (set_of self.old entry.now.line).ways }
+        ensures { self.new ≡ with_set self.old entry.now.line (entry.now ∷ without (set_of self.old entry.now.line).lines entry.now.line) }
+    {
+        let index = index_of(&self.sets, self.mask, entry.line);
+        let set = &mut self.sets[index as usize];
+        put_before(set, entry);
+    }
+
+    /// A line leaves the set of a line.
+    pub fn remove_from(&mut self, line: u32, other: u32)
+        ensures { self.new ≡ with_set self.old line (without (set_of self.old line).lines other) }
+    {
+        let index = index_of(&self.sets, self.mask, line);
+        self.sets[index as usize].remove(other);
+    }
+
+    /// What is kept of a line. The order of use stays.
+    pub fn entry(&self, line: u32) -> Option<Entry>
+        ensures { result ≡ kept_of self.now line }
+    {
+        let index = index_of(&self.sets, self.mask, line);
+        self.sets[index as usize].entry(line)
+    }
+
+    /// How many lines the set of a line keeps.
+    pub fn len_of(&self, line: u32) -> u32
+        ensures { result ≡ length (set_of self.now line).lines }
+    {
+        let index = index_of(&self.sets, self.mask, line);
+        self.sets[index as usize].len()
+    }
+
+    /// The least recent line of the set of a line but itself.
+    pub fn oldest_other(&self, line: u32) -> Option<Entry>
+        ensures { result ≡ last_of (without (set_of self.now line).lines line) }
+    {
+        let index = index_of(&self.sets, self.mask, line);
+        self.sets[index as usize].oldest_other(line)
+    }
+
+    /// The least recent dirty line of a set.
+    pub fn last_dirty(&self, set: u32) -> Option<Entry>
+        requires { set < length self.now }
+        ensures { result ≡ last_dirty (set_at self.now set).lines }
+    {
+        self.sets[set as usize].last_dirty()
+    }
+
+    /// The number of sets.
+    pub fn count(&self) -> u32
+        ensures { result ≡ length self.now }
+    {
+        self.mask + 1
+    }
+
+    /// The line of the same set that is to be written below before this one is put in.
+    pub fn dirty_victim(&self, line: u32) -> Option<Entry>
+        ensures { result ≡ dirty_victim (set_of self.now line) }
+    {
+        let index = index_of(&self.sets, self.mask, line);
+        self.sets[index as usize].dirty_victim()
+    }
+
+    /// The least recent line of the same set is clean from now on.
+    pub fn clean_last(&mut self, line: u32)
+        ensures { self.new ≡ with_set self.old line (clean_last (set_of self.old line).lines) }
+    {
+        let index = index_of(&self.sets, self.mask, line);
+        self.sets[index as usize].clean_last();
+    }
+
+    /// The dirty line that a flush writes next, where the sets up to that of the line given have no other one: by rising
+    /// sets, least recent first.
+    pub fn next_dirty(&self, from: u32) -> Option<Entry>
+        requires { (i : ℕ) → i < from → last_dirty (set_at self.now i).lines ≡ None }
+        ensures { result ≡ next_dirty self.now }
+    {
+        for set in from..self.mask + 1 {
+            if let Some(entry) = self.sets[set as usize].last_dirty() {
+                return Some(entry);
+            }
+        }
+        None
+    }
+
+    /// The number of a line's set.
+    pub fn set_number(&self, line: u32) -> u32
+        ensures { result ≡ line % length self.now }
+    {
+        index_of(&self.sets, self.mask, line)
+    }
+
+    /// The line is clean from now on, where it is kept.
+    pub fn clean(&mut self, line: u32)
+        ensures { self.new ≡ with_clean self.old line }
+    {
+        let index = index_of(&self.sets, self.mask, line);
+        self.sets[index as usize].clean(line);
+    }
+
+    /// A byte of the most recent line of the set of `line`.
+    pub fn first_byte(&self, line: u32, offset: u32) -> u8
+        requires some { 0 < length (set_of self.now line).lines }
+        requires inside { offset < 64 }
+        ensures { IfSome (slice_get (set_of self.now line).lines 0) (λ e. result ≡ slice_index e.bytes offset) }
+    {
+        let index = index_of(&self.sets, self.mask, line);
+        self.sets[index as usize].first_byte(offset)
+    }
+
+    /// Changes a byte of the most recent line of the set of `line`, which is dirty from now on.
+    pub fn set_first_byte(&mut self, line: u32, offset: u32, byte: u8)
+        requires some { 0 < length (set_of self.old line).lines }
+        requires inside { offset < 64 }
+        ensures { self.new ≡ with_set self.old line (poked (set_of self.old line).lines offset byte) }
+    {
+        let index = index_of(&self.sets, self.mask, line);
+        self.sets[index as usize].set_first_byte(offset, byte);
+    }
+
+    /// Copies the bytes of the most recent line of the set of `line`.
+    pub fn copy_first(&self, line: u32, into: &mut Line)
+        requires { 0 < length (set_of self.now line).lines }
+        ensures { IfSome (slice_get (set_of self.now line).lines 0) (λ e. into.new ≡ e.bytes) }
+    {
+        let index = index_of(&self.sets, self.mask, line);
+        self.sets[index as usize].copy_first(into);
+    }
+
+    /// Changes the bytes of the most recent line of the set of `line`, which is dirty from now on.
+    pub fn set_first(&mut self, line: u32, from: &Line)
+        requires { 0 < length (set_of self.old line).lines }
+        ensures { self.new ≡ with_set self.old line (overwritten (set_of self.old line).lines from.now) }
+    {
+        let index = index_of(&self.sets, self.mask, line);
+        self.sets[index as usize].set_first(from);
+    }
+}
