@@ -4,6 +4,7 @@
 //! shelves serve tests; plain lines are a memory that is not compressed.
 #![tactic(auto)]
 
+mod access;
 mod beats;
 mod counts;
 mod errand;
@@ -20,6 +21,7 @@ mod source;
 mod tests;
 mod units;
 
+pub use access::Access;
 pub use beats::{Beat, BeatWord};
 pub use counts::{L1Counts, L2Counts, PageCounts, Totals};
 pub use errand::Errand;
@@ -28,7 +30,7 @@ pub use geometry::Geometry;
 pub use layer::Layer;
 pub use plain_lines::PlainLines;
 pub use port::Port;
-pub use settings::{Codec, Settings};
+pub use settings::{Codec, SettingName, Settings};
 pub use shelf::{ListShelf, Shelf};
 pub use sink::{BytesSink, NullSink, Sink};
 pub use source::{BytesSource, Source};

@@ -14,6 +14,24 @@ pub enum Codec {
     Fpc,
 }
 
+/// What a user may set, and what else the words tell, in the order in which they are tested.
+#[derive(Clone, Copy, Debug, PartialEq, Eq)]
+pub enum SettingName {
+    Command,
+    Base,
+    Pages,
+    Frames,
+    Codec,
+    L1Sets,
+    L1Ways,
+    L2Sets,
+    L2Ways,
+    Meta,
+    Budget,
+    Beats,
+    Number,
+}
+
 /// The sizes of the hierarchy, and how a run goes. `docs/FORMATS.md` has the rule of each.
 #[derive(Debug, Drop)]
 pub struct Settings {
