@@ -1,5 +1,5 @@
 -- A run, beat by beat.
-use Rattle.std.proofs.Common.{◌≡◌, ◌<◌, ◌≤◌, ℕ, true, false, Option, Some, None, refl, ◌∙◌, ap, subst, sym}
+use Rattle.std.proofs.Common.{◌≡◌, ◌<◌, ◌≤◌, true, false, Some, None, refl, ◌∙◌, ap, subst}
 use Rattle.hier_types.specs.declared.beats.Beat.{Beat}
 use Rattle.hier_types.specs.declared.beats.Beat.TheVariants.{Hart, Mover, Cleaner}
 use Rattle.hier_types.specs.Span.{Span}
@@ -7,10 +7,9 @@ use Rattle.sys_shim.specs.Streams.{AreUntouched, FaultsStay, Streams}
 use Rattle.rv_guest.specs.declared.ends.MachineEnd.{MachineEnd}
 use Rattle.rv_guest.specs.declared.ends.MachineEnd.TheVariants.{Budget}
 use Rattle.rv_guest.specs.Beat.{DoesBeat}
-use Rattle.rv_guest.specs.Runs as guest
 use Rattle.rv_guest.proofs.RunLemmas as lemmas
 use Rattle.rv_guest.proofs.RunLemmas.{Meets, over}
-use Rattle.hier_machine.specs.Beats.{Beats, HartBeats, Stays}
+use Rattle.hier_machine.specs.Beats.{Beats, Stays}
 use Rattle.hier_machine.specs.Runs.{Runs}
 use Rattle.hier_machine.specs.State.{State}
 

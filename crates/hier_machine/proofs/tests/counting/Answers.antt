@@ -1,4 +1,4 @@
-use Rattle.std.proofs.Common.{◌≡◌, subst, sym}
+use Rattle.std.proofs.Common.{subst, sym}
 use Rattle.hier_types.specs.Settings.{AreWithinRules}
 use Rattle.hier_types.proofs.SettingLemmas.{default_rules}
 use Rattle.hier_machine.proofs.tests.counting.Goals as goal

@@ -1,7 +1,6 @@
 use Rattle.std.proofs.Common.{◌≡◌, ◌<◌, ◌≤◌, ◌∙◌, length, slice_get, Some, refl, sym, ap, subst, arith}
 use Rattle.hier_types.specs.Beats.{IsBeatWord}
-use Rattle.sys_shim.specs.Streams.{Streams, stream, streams}
-use Rattle.rv_guest.specs.State as guest
+use Rattle.sys_shim.specs.Streams.{stream, streams}
 use Rattle.hier_machine.specs.contracts.machine.Machine.{the_view}
 use Rattle.hier_machine.specs.State.{State}
 use Rattle.hier_machine.proofs.RunLemmas.{RunsSoFar, runs_budget, runs_end, runs_none, runs_on}
