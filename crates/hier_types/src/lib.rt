@@ -1,4 +1,4 @@
-//! The words that the crates of the simulator share: lines and pages, the guest's span, settings, and the traits
+//! The words that the crates of the simulator share: lines and pages, the guest's span, settings, counts, and the traits
 //! between layers. Contracts see a memory as its lines, a port as its bytes, and what stands outside as bytes that
 //! are told or not. Nothing here knows of instructions, caches or codecs. The forms in memory of sources, sinks and
 //! shelves serve tests; plain lines are a memory that is not compressed.

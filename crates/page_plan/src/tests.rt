@@ -52,7 +52,11 @@ fn zeros_and_plain_lines(rt: HostRuntime) {
             (28, PagePlan::Raw),
             (64, PagePlan::Raw),
         ] {
-            assert_eq!(rt; plan(codec, &page_of([0; 64], plain(), count)), expected);
+            let page = page_of([0; 64], plain(), count);
+            let sizes = sizes_of(codec, &page);
+            assert_eq!(rt; plan(codec, &page), expected);
+            assert_eq!(rt; plan_with(&page, &sizes), expected);
+            assert_eq!(rt; exceptions(&sizes, 28) as usize, count);
         }
     }
 }

@@ -8,7 +8,7 @@ use Rattle.buddy_frames.proofs.MoveLemmas.{AreApart-swap}
 use Rattle.page_plan.specs.declared.least.PagePlan.{PagePlan}
 use Rattle.page_store.specs.declared.desc.Desc.{Desc}
 use Rattle.page_store.specs.declared.desc.Desc.TheVariants.{Zero}
-use Rattle.page_store.specs.Homes.{block_of, block_at, order_of, IsAtPlan, IsHome, moved, Outgrows, Settles, LacksRoom, IsIn, AreSound, IsFreeFor}
+use Rattle.page_store.specs.PageBlocks.{block_of, block_at, order_of, IsAtPlan, IsNewBlock, moved, Outgrows, Settles, LacksRoom, IsIn, AreSound, IsFreeFor}
 use Rattle.page_store.specs.Moves.{IsApartFrom, HasNoneBut, Moves}
 
 -- a fact of the value that there is
@@ -145,7 +145,7 @@ module _ (ds : List Desc) (used : List ℕ) (page : ℕ) (held : Desc) (sound : 
       record {
         desc = desc;
         at_plan = at_plan;
-        home = subst (λ o. IsHome used o (block_of desc)) (sym block_is) moves.home;
+        new_block = subst (λ o. IsNewBlock used o (block_of desc)) (sym block_is) moves.new_block;
         descriptors_are = set-set ds page x desc;
         used_is = moves.used_is ∙ ap (λ o. moved used o (block_of desc)) (sym block_is);
       }

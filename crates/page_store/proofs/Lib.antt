@@ -1,4 +1,4 @@
-pub mod HomeLemmas
+pub mod MoveLemmas
 pub mod BlockLemmas
 pub mod PageLemmas
 pub mod ListLemmas

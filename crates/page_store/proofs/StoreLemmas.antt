@@ -22,12 +22,12 @@ use Rattle.page_plan.proofs.PlanLemmas.{IsPlan-plan_of, only_plan}
 use Rattle.page_store.specs.declared.desc.Desc.{Desc}
 use Rattle.page_store.specs.declared.desc.Desc.TheVariants.{Zero}
 use Rattle.page_store.specs.Pages.{page_of, with_page, lines_of}
-use Rattle.page_store.specs.Homes.{order_of, block_of, block_at, moved, IsHome, IsAtPlan, AreSound, Settles, LacksRoom}
+use Rattle.page_store.specs.PageBlocks.{order_of, block_of, block_at, moved, IsNewBlock, IsAtPlan, AreSound, Settles, LacksRoom}
 use Rattle.page_store.specs.Store.{Store, HasZero, IsSound, AreSizes, IsKept}
 use Rattle.page_store.specs.Sizes.{sizes_of_memory}
 use Rattle.page_store.specs.KeptSizes.{totals_kept}
 use Rattle.page_store.specs.Calls.{Refused, Rewrites, PlacesPage}
-use Rattle.page_store.proofs.HomeLemmas.{kept_home, kept_units}
+use Rattle.page_store.proofs.MoveLemmas.{kept_block, kept_units}
 use Rattle.page_store.proofs.BlockLemmas.{block_at-get, block_live}
 use Rattle.page_store.proofs.CrowdLemmas.{small_order, crowded_tight, tight_few}
 use Rattle.page_store.proofs.ListLemmas.{get-set_same, get-set_other}
@@ -162,7 +162,7 @@ stays s page lines counts t sound within same is =
       settles = record {
         desc = desc;
         at_plan = sound.at_plan page desc there;
-        home = subst (λ o. IsHome s.used (block_at s.descriptors page) o) block_is (kept_home s.used (block_at s.descriptors page));
+        new_block = subst (λ o. IsNewBlock s.used (block_at s.descriptors page) o) block_is (kept_block s.used (block_at s.descriptors page));
         descriptors_are = sym (set-get_or s.descriptors page Zero);
         used_is = kept_units s.used (block_at s.descriptors page) live ∙ ap (moved s.used (block_at s.descriptors page)) block_is;
       };

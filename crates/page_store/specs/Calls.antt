@@ -6,7 +6,7 @@ use Rattle.hier_types.specs.declared.counts.PageCounts.{PageCounts}
 use Rattle.hier_types.specs.declared.faults.NoSpace.{NoSpace}
 use Rattle.page_plan.specs.PagePlan.{plan_of}
 use Rattle.page_store.specs.Pages.{page_of, with_page, lines_of}
-use Rattle.page_store.specs.Homes.{block_at, order_of, Outgrows, Settles}
+use Rattle.page_store.specs.PageBlocks.{block_at, order_of, Outgrows, Settles}
 use Rattle.page_store.specs.Store.{Store}
 use Rattle.page_store.specs.Crowds.{Crowded, Tight}
 

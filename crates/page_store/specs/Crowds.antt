@@ -9,7 +9,7 @@ use Rattle.page_plan.specs.declared.least.PagePlan.TheVariants.{Zero, Packed, Ra
 use Rattle.page_plan.specs.PagePlan.{plan_of}
 use Rattle.page_store.specs.declared.desc.Desc.{Desc}
 use Rattle.page_store.specs.Pages.{page_of, plans_of}
-use Rattle.page_store.specs.Homes.{IsAtPlan, IsFreeFor}
+use Rattle.page_store.specs.PageBlocks.{IsAtPlan, IsFreeFor}
 use Rattle.page_store.specs.Store.{Store}
 
 -- every page but the refused one is at its plan, and no place of the order is free for that one

@@ -1,5 +1,5 @@
 pub mod Pages
-pub mod Homes
+pub mod PageBlocks
 pub mod Moves
 pub mod Store
 pub mod Crowds

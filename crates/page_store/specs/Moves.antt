@@ -1,7 +1,7 @@
 -- One page's block among the units in use, before and after the page comes to another plan.
 use Rattle.std.specs.Prelude.{◌≡◌, ℕ, ◌⊎◌, List, length, Option, Some, IfSome, IsSomeAnd}
 use Rattle.buddy_frames.specs.Units.{Place, place_at, in_use, IsPlace, IsUsedPlace, AreApart}
-use Rattle.page_store.specs.Homes.{moved, IsHome, IsIn}
+use Rattle.page_store.specs.PageBlocks.{moved, IsNewBlock, IsIn}
 
 -- another place shares no unit with a page's block
 abbrev pub IsApartFrom : Option Place → Place → Type 0
@@ -19,7 +19,7 @@ HasNoneBut used held order = (unit : ℕ) → IsFreeBut used held (place_at orde
 -- The page's block moves as it is to, and the blocks of other pages stay in use and apart from it. A unit in use after it is
 -- the new block's, or was in use and not the old block's.
 pub record Moves (used : List ℕ) (before after : Option Place) (used' : List ℕ) : Type 0 where
-  pub home : IsHome used before after
+  pub new_block : IsNewBlock used before after
   pub used_is : used' ≡ moved used before after
   pub same : length used' ≡ length used
   pub live : IfSome after (IsUsedPlace used')
@@ -28,6 +28,6 @@ pub record Moves (used : List ℕ) (before after : Option Place) (used' : List �
   pub owned : (unit : ℕ) → in_use used' unit ≡ 1 → IsSomeAnd after (IsIn unit) ⊎ ((in_use used unit ≡ 1) × ¬ IsSomeAnd before (IsIn unit))
 
 -- a page comes into a block of an order
-pub record Houses (used : List ℕ) (before : Option Place) (order : ℕ) (home : Place) (used' : List ℕ) : Type 0 where
-  pub order_is : home.order ≡ order
-  pub moves : Moves used before (Some home) used'
+pub record GetsBlock (used : List ℕ) (before : Option Place) (order : ℕ) (block : Place) (used' : List ℕ) : Type 0 where
+  pub order_is : block.order ≡ order
+  pub moves : Moves used before (Some block) used'

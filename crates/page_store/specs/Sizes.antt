@@ -9,7 +9,7 @@ use Rattle.page_plan.specs.declared.least.PagePlan.TheVariants.{Zero, Packed, Ra
 use Rattle.page_plan.specs.Layout.{is_exception, stored_sizes}
 use Rattle.page_plan.specs.PagePlan.{plan_of}
 use Rattle.page_store.specs.Pages.{pages_of, plans_of}
-use Rattle.page_store.specs.Homes.{order_of}
+use Rattle.page_store.specs.PageBlocks.{order_of}
 
 -- the plan asks for a block of this order
 abbrev pub has_order : ℕ → PagePlan → Bool

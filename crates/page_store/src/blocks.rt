@@ -1,11 +1,11 @@
 // The blocks of all pages.
 ghost use Rattle.std.specs.Prelude.{◌≡◌, ◌≤◌, ◌<◌, ◌*◌, ℕ, length, replicate, IfOk, IfErr, OnOk, OnErr};
 ghost use Rattle.buddy_frames.specs.Units.{place_at, IsFreeBlock, IsCount};
-ghost use Rattle.page_store.specs.Homes.{Settles, LacksRoom, AreSound};
+ghost use Rattle.page_store.specs.PageBlocks.{Settles, LacksRoom, AreSound};
 ghost use Rattle.page_store.specs.declared.desc.Desc.TheVariants as desc;
 
 use crate::desc::Desc;
-use crate::homes::settle;
+use crate::page_block::settle;
 use buddy_frames::Frames;
 use hier_types::NoMemory;
 use page_plan::PagePlan;
@@ -21,9 +21,9 @@ pub(crate) struct Blocks {
 }
 
 impl Model for Blocks {
-    ghost use Rattle.page_store.specs.Homes.{Held, AreSound};
+    ghost use Rattle.page_store.specs.PageBlocks.{HeldBlocks, AreSound};
 
-    ghost Value = { Held };
+    ghost Value = { HeldBlocks };
 
     ghost view = { λ b. record { descriptors = b.descriptors.items; used = b.frames } };
 
@@ -73,9 +73,9 @@ impl Blocks {
                 self.descriptors[page] = desc;
                 Ok(())
             }
-            Err(homeless) => {
-                self.descriptors[page] = homeless.held;
-                Err(homeless.order)
+            Err(no_place) => {
+                self.descriptors[page] = no_place.held;
+                Err(no_place.order)
             }
         }
     }

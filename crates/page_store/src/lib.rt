@@ -5,7 +5,7 @@
 
 mod blocks;
 mod desc;
-mod homes;
+mod page_block;
 mod page_lines;
 mod pages;
 #[cfg(test)]

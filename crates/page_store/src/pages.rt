@@ -16,7 +16,8 @@ use std::marker::Model;
 
 /// A memory of 1 to 65,536 pages of 64 lines, in frames of 4,096 bytes. Each page that is not zero has a block of the order
 /// of its plan, which is the least layout under the codec. The lines themselves are kept plain, and beside each what it
-/// takes in a slot. No call but `new` takes memory.
+/// takes in a slot. No call but `new` takes memory. A call that changes lines is refused only where no place of the frames is
+/// free for the page that it changes, and never where there are at least as many frames as pages.
 #[derive(Drop)]
 pub struct Pages {
     codec: Codec,
@@ -37,28 +38,13 @@ impl Model for Pages {
     ghost invariant = { λ p. IsKept (record { codec = p.codec; lines = p.lines.items; descriptors = p.blocks.descriptors; used = p.blocks.used; counts = p.counts; stops = p.stops }) p.sizes.items };
 }
 
-/// So many lines of zeros.
-fn zero_lines(alloc: Global, lines: u32) -> Result<Vec<Line>, NoMemory>
-    ensures { IfOk result (λ made. made.items ≡ replicate lines zero_line) }
+/// So many copies of a value.
+fn copies<T: Copy>(alloc: Global, count: u32, value: T) -> Result<Vec<T>, NoMemory>
+    ensures { IfOk result (λ made. made.items ≡ replicate count value) }
 {
-    let mut made = Vec::with_capacity(alloc, lines as usize)?;
-    for count in 0..lines {
-        made.push([0; 64])?;
-    }
-    Ok(made)
-}
-
-/// The sizes of so many pages of the same sizes.
-fn same_sizes(
-    alloc: Global,
-    pages: u32,
-    sizes: &[Option<u8>; 64],
-) -> Result<Vec<[Option<u8>; 64]>, NoMemory>
-    ensures { IfOk result (λ made. made.items ≡ replicate pages sizes.now) }
-{
-    let mut made = Vec::with_capacity(alloc, pages as usize)?;
-    for count in 0..pages {
-        made.push(*sizes)?;
+    let mut made = Vec::with_capacity(alloc, count as usize)?;
+    for done in 0..count {
+        made.push(value)?;
     }
     Ok(made)
 }
@@ -84,10 +70,11 @@ impl Pages {
         ensures { IfOk result (λ made. made ≡ fresh codec geometry.pages frames) }
     {
         let pages = geometry.pages;
-        let lines = zero_lines(alloc, PAGE_LINES * pages)?;
-        let zero_page = [[0; 64]; 64];
+        let zero_line: Line = [0; 64];
+        let lines = copies(alloc, PAGE_LINES * pages, zero_line)?;
+        let zero_page = [zero_line; 64];
         let zero_sizes = sizes_of(codec, &zero_page);
-        let sizes = same_sizes(alloc, pages, &zero_sizes)?;
+        let sizes = copies(alloc, pages, zero_sizes)?;
         let blocks = Blocks::new(alloc, pages, frames)?;
         Ok(Pages {
             codec,

@@ -77,6 +77,7 @@ fn nine_pages_in_one_frame(rt: HostRuntime) {
     let Ok(mut pages) = store(rt.alloc(), 9, 1) else {
         panic!(rt; "no memory");
     };
+    assert_eq!(rt; pages.lines(), 576);
     assert_eq!(rt; (pages.free(0), pages.free(3)), (0, 1));
     for page in 0..8u32 {
         assert!(rt; fill(&mut pages, page, 1, &shortened()));

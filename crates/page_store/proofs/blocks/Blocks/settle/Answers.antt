@@ -33,16 +33,16 @@ back : (c : After-replace-held) (kept : Desc) → kept ≡ c.replace-held.result
 back c kept same = put_back c.self.inside.descriptors.items c.self.inside.frames c.args.page c.replace-held.result c.self.invariant (taken c) c.replace-held.new.dest kept same
 
 pub invariant_of-self-in-Err : goal.invariant_of-self-in-Err
-invariant_of-self-in-Err c = rw (back (goal.at.invariant_of-self-in-Err c).After-replace-held c.in-Err.homeless.held c.in-Err.ensures.back, c.in-Err.ensures.unchanged) c.self.invariant
+invariant_of-self-in-Err c = rw (back (goal.at.invariant_of-self-in-Err c).After-replace-held c.in-Err.no_place.held c.in-Err.ensures.back, c.in-Err.ensures.unchanged) c.self.invariant
 
 pub returns-in-Err-clause-sound : goal.returns-in-Err-clause-sound
-returns-in-Err-clause-sound c = rw (back (goal.at.returns-in-Err-clause-sound c).After-replace-held c.in-Err.homeless.held c.in-Err.ensures.back, c.in-Err.ensures.unchanged) c.self.invariant
+returns-in-Err-clause-sound c = rw (back (goal.at.returns-in-Err-clause-sound c).After-replace-held c.in-Err.no_place.held c.in-Err.ensures.back, c.in-Err.ensures.unchanged) c.self.invariant
 
 pub returns-in-Err-clause-err : goal.returns-in-Err-clause-err
 returns-in-Err-clause-err c =
     rw (← c.self.view_is) (taken_lacks c.self.inside.descriptors.items c.self.inside.frames c.args.page c.replace-held.result c.self.invariant
-    (taken (goal.at.returns-in-Err-clause-err c).After-replace-held) c.args.plan c.in-Err.homeless.order c.in-Err.ensures.order c.in-Err.ensures.none c.in-Err.ensures.outgrown)
+    (taken (goal.at.returns-in-Err-clause-err c).After-replace-held) c.args.plan c.in-Err.no_place.order c.in-Err.ensures.order c.in-Err.ensures.none c.in-Err.ensures.outgrown)
 
 pub returns-in-Err-clause-unchanged : goal.returns-in-Err-clause-unchanged
 returns-in-Err-clause-unchanged c =
-    rw (← c.self.view_is, back (goal.at.returns-in-Err-clause-unchanged c).After-replace-held c.in-Err.homeless.held c.in-Err.ensures.back, c.in-Err.ensures.unchanged) refl
+    rw (← c.self.view_is, back (goal.at.returns-in-Err-clause-unchanged c).After-replace-held c.in-Err.no_place.held c.in-Err.ensures.back, c.in-Err.ensures.unchanged) refl

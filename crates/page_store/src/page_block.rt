@@ -1,8 +1,8 @@
 // One page's block, as its plan changes.
 ghost use Rattle.std.specs.Prelude.{◌≡◌, ◌≤◌, ◌<◌, Some, None, IfOk, IfErr, IfSome, OnErr};
 ghost use Rattle.buddy_frames.specs.Units.{IsUsedPlace};
-ghost use Rattle.page_store.specs.Homes.{block_of, IsAtPlan, order_of, Outgrows};
-ghost use Rattle.page_store.specs.Moves.{HasNoneBut, Moves, Houses};
+ghost use Rattle.page_store.specs.PageBlocks.{block_of, IsAtPlan, order_of, Outgrows};
+ghost use Rattle.page_store.specs.Moves.{HasNoneBut, Moves, GetsBlock};
 
 use crate::desc::Desc;
 use buddy_frames::{Block, Frames};
@@ -10,7 +10,7 @@ use page_plan::PagePlan;
 
 /// A page that found no block of an order, as it was kept before and is kept still.
 #[derive(Drop)]
-pub(crate) struct Homeless {
+pub(crate) struct NoPlace {
     pub held: Desc,
     pub order: u8,
 }
@@ -18,7 +18,7 @@ pub(crate) struct Homeless {
 /// A block of another order for a block: its own first units where it has room, else what the frames choose.
 fn reorder(frames: &mut Frames, block: Block, order: u8) -> Result<Block, Block>
     requires { IsUsedPlace frames.old block }
-    ensures houses { IfOk result (λ home. Houses frames.old (Some block) order home frames.new) }
+    ensures gets { IfOk result (λ moved. GetsBlock frames.old (Some block) order moved frames.new) }
     ensures none { OnErr result (HasNoneBut frames.old (Some block) order) }
     ensures outgrown { OnErr result (block.order < order) }
     ensures back { IfErr result (λ back. back ≡ block) }
@@ -31,32 +31,32 @@ fn reorder(frames: &mut Frames, block: Block, order: u8) -> Result<Block, Block>
 }
 
 /// A block of an order for a page.
-fn house(frames: &mut Frames, held: Desc, order: u8) -> Result<Block, Homeless>
+fn block_for(frames: &mut Frames, held: Desc, order: u8) -> Result<Block, NoPlace>
     requires { IfSome (block_of held) (IsUsedPlace frames.old) }
-    ensures houses { IfOk result (λ home. Houses frames.old (block_of held) order home frames.new) }
+    ensures gets { IfOk result (λ moved. GetsBlock frames.old (block_of held) order moved frames.new) }
     ensures none { OnErr result (HasNoneBut frames.old (block_of held) order) }
     ensures outgrown { OnErr result (Outgrows (block_of held) order) }
-    ensures back { IfErr result (λ homeless. homeless ≡ record { held = held; order = order }) }
+    ensures back { IfErr result (λ no_place. no_place ≡ record { held = held; order = order }) }
     ensures unchanged { OnErr result (frames.new ≡ frames.old) }
 {
     match held {
         Desc::Zero => match frames.take(order) {
             Some(block) => Ok(block),
-            None => Err(Homeless {
+            None => Err(NoPlace {
                 held: Desc::Zero,
                 order,
             }),
         },
         Desc::Packed { block, target } => match reorder(frames, block, order) {
-            Ok(home) => Ok(home),
-            Err(block) => Err(Homeless {
+            Ok(moved) => Ok(moved),
+            Err(block) => Err(NoPlace {
                 held: Desc::Packed { block, target },
                 order,
             }),
         },
         Desc::Raw { block } => match reorder(frames, block, order) {
-            Ok(home) => Ok(home),
-            Err(block) => Err(Homeless {
+            Ok(moved) => Ok(moved),
+            Err(block) => Err(NoPlace {
                 held: Desc::Raw { block },
                 order,
             }),
@@ -77,14 +77,14 @@ fn release(frames: &mut Frames, held: Desc)
 }
 
 /// Brings a page to a plan. Where the plan's order has no place the page and the frames stay as they were.
-pub(crate) fn settle(frames: &mut Frames, held: Desc, plan: PagePlan) -> Result<Desc, Homeless>
+pub(crate) fn settle(frames: &mut Frames, held: Desc, plan: PagePlan) -> Result<Desc, NoPlace>
     requires { IfSome (block_of held) (IsUsedPlace frames.old) }
     ensures at_plan { IfOk result (IsAtPlan plan) }
     ensures moves { IfOk result (λ desc. Moves frames.old (block_of held) (block_of desc) frames.new) }
-    ensures order { IfErr result (λ homeless. order_of plan ≡ Some homeless.order) }
-    ensures none { IfErr result (λ homeless. HasNoneBut frames.old (block_of held) homeless.order) }
-    ensures outgrown { IfErr result (λ homeless. Outgrows (block_of held) homeless.order) }
-    ensures back { IfErr result (λ homeless. homeless.held ≡ held) }
+    ensures order { IfErr result (λ no_place. order_of plan ≡ Some no_place.order) }
+    ensures none { IfErr result (λ no_place. HasNoneBut frames.old (block_of held) no_place.order) }
+    ensures outgrown { IfErr result (λ no_place. Outgrows (block_of held) no_place.order) }
+    ensures back { IfErr result (λ no_place. no_place.held ≡ held) }
     ensures unchanged { OnErr result (frames.new ≡ frames.old) }
 {
     match plan {
@@ -92,13 +92,13 @@ pub(crate) fn settle(frames: &mut Frames, held: Desc, plan: PagePlan) -> Result<
             release(frames, held);
             Ok(Desc::Zero)
         }
-        PagePlan::Packed { order, target, .. } => match house(frames, held, order) {
+        PagePlan::Packed { order, target, .. } => match block_for(frames, held, order) {
             Ok(block) => Ok(Desc::Packed { block, target }),
-            Err(homeless) => Err(homeless),
+            Err(no_place) => Err(no_place),
         },
-        PagePlan::Raw => match house(frames, held, 3) {
+        PagePlan::Raw => match block_for(frames, held, 3) {
             Ok(block) => Ok(Desc::Raw { block }),
-            Err(homeless) => Err(homeless),
+            Err(no_place) => Err(no_place),
         },
     }
 }

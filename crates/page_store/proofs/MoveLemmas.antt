@@ -8,8 +8,8 @@ use Rattle.buddy_frames.specs.FrameByte.{all_below, run_is}
 use Rattle.buddy_frames.proofs.TableLemmas.{all_at, all_from, clears_byte}
 use Rattle.buddy_frames.proofs.PlaceLemmas.{byte_at, fits_frame, to_run}
 use Rattle.buddy_frames.proofs.MoveLemmas.{taken-given}
-use Rattle.page_store.specs.Homes.{IsHome, IsIn, moved}
-use Rattle.page_store.specs.Moves.{HasNoneBut, Houses}
+use Rattle.page_store.specs.PageBlocks.{IsNewBlock, IsIn, moved}
+use Rattle.page_store.specs.Moves.{HasNoneBut, GetsBlock}
 
 -- a unit in use after a place came into use
 set_owned : (before : List ℕ) (place : Place) (after : List ℕ) (unit : ℕ) → SetsUnits before place 1 after → in_use after unit ≡ 1
@@ -50,20 +50,20 @@ moved_owned used mid used' old new unit frees takes busy =
     ]
 
 -- a page that had no block takes one
-pub taken_houses : (used : List ℕ) (order : ℕ) (home : Place) (used' : List ℕ) → Takes used order home used' → IsUsedPlace used' home → KeepsUsed used used' → IsApart used home
-    → Houses used None order home used'
-taken_houses used order home used' takes live keeps apart =
-    let order_is : home.order ≡ order = takes.choice.order_is in
+pub taken_gets : (used : List ℕ) (order : ℕ) (new : Place) (used' : List ℕ) → Takes used order new used' → IsUsedPlace used' new → KeepsUsed used used' → IsApart used new
+    → GetsBlock used None order new used'
+taken_gets used order new used' takes live keeps apart =
+    let order_is : new.order ≡ order = takes.choice.order_is in
     record {
       order_is = order_is;
       moves = record {
-        home = subst (λ (k : ℕ). IsChoice used k home) (sym order_is) takes.choice;
+        new_block = subst (λ (k : ℕ). IsChoice used k new) (sym order_is) takes.choice;
         used_is = takes.after_is;
         same = takes.units.same;
         live = live;
         keeps = λ other busy free. keeps other busy;
         apart = λ other busy free. apart other busy;
-        owned = λ unit busy. elim (set_owned used home used' unit takes.units busy) [
+        owned = λ unit busy. elim (set_owned used new used' unit takes.units busy) [
           | inl inside ↦ inl inside
           | inr before ↦ inr (before, λ none. none)
         ];
@@ -71,49 +71,49 @@ taken_houses used order home used' takes live keeps apart =
     }
 
 -- a block gives up the units behind its first ones
-pub trimmed_houses : (used : List ℕ) (old : Place) (order : ℕ) (home : Place) (used' : List ℕ) → order ≤ old.order → home ≡ place_at order old.unit
-    → SetsUnits used old 0 (given used old) → used' ≡ taken (given used old) home → SetsUnits (given used old) home 1 used'
-    → IsUsedPlace used' home → KeepsOthers used old used' → StaysApart used old home → Houses used (Some old) order home used'
-trimmed_houses used old order home used' le is frees used_is takes live keeps apart =
-    let order_is : home.order ≡ order = cc in
-    let unit_is : home.unit ≡ old.unit = cc in
+pub trimmed_gets : (used : List ℕ) (old : Place) (order : ℕ) (new : Place) (used' : List ℕ) → order ≤ old.order → new ≡ place_at order old.unit
+    → SetsUnits used old 0 (given used old) → used' ≡ taken (given used old) new → SetsUnits (given used old) new 1 used'
+    → IsUsedPlace used' new → KeepsOthers used old used' → StaysApart used old new → GetsBlock used (Some old) order new used'
+trimmed_gets used old order new used' le is frees used_is takes live keeps apart =
+    let order_is : new.order ≡ order = cc in
+    let unit_is : new.unit ≡ old.unit = cc in
     record {
       order_is = order_is;
       moves = record {
-        home = (λ room. unit_is, λ more. absurd (omega arith));
+        new_block = (λ room. unit_is, λ more. absurd (omega arith));
         used_is = used_is;
         same = takes.same ∙ frees.same;
         live = live;
         keeps = keeps;
         apart = apart;
-        owned = λ unit busy. moved_owned used (given used old) used' old home unit frees takes busy;
+        owned = λ unit busy. moved_owned used (given used old) used' old new unit frees takes busy;
       };
     }
 
 -- a block is changed for a larger one
-pub grown_houses : (used : List ℕ) (old : Place) (order : ℕ) (home : Place) (used' : List ℕ) → old.order < order → SetsUnits used old 0 (given used old)
-    → Takes (given used old) order home used' → IsUsedPlace used' home → KeepsOthers used old used' → StaysApart used old home
-    → Houses used (Some old) order home used'
-grown_houses used old order home used' lt frees takes live keeps apart =
-    let order_is : home.order ≡ order = takes.choice.order_is in
+pub grown_gets : (used : List ℕ) (old : Place) (order : ℕ) (new : Place) (used' : List ℕ) → old.order < order → SetsUnits used old 0 (given used old)
+    → Takes (given used old) order new used' → IsUsedPlace used' new → KeepsOthers used old used' → StaysApart used old new
+    → GetsBlock used (Some old) order new used'
+grown_gets used old order new used' lt frees takes live keeps apart =
+    let order_is : new.order ≡ order = takes.choice.order_is in
     record {
       order_is = order_is;
       moves = record {
-        home = (λ room. absurd (omega arith), λ more. subst (λ (k : ℕ). IsChoice (given used old) k home) (sym order_is) takes.choice);
+        new_block = (λ room. absurd (omega arith), λ more. subst (λ (k : ℕ). IsChoice (given used old) k new) (sym order_is) takes.choice);
         used_is = takes.after_is;
         same = takes.units.same ∙ frees.same;
         live = live;
         keeps = keeps;
         apart = apart;
-        owned = λ unit busy. moved_owned used (given used old) used' old home unit frees takes.units busy;
+        owned = λ unit busy. moved_owned used (given used old) used' old new unit frees takes.units busy;
       };
     }
 
 -- the same of an answer
 pub grown_or_same : (used : List ℕ) (old : Place) (order : ℕ) (answer : Result Place Place) (used' : List ℕ) → old.order < order → SetsUnits used old 0 (given used old)
-    → IfOk answer (λ home. Takes (given used old) order home used') → MatchResult answer (IsUsedPlace used') (IsUsedPlace used') → KeepsOthers used old used'
-    → IfOk answer (StaysApart used old) → IfOk answer (λ home. Houses used (Some old) order home used')
-grown_or_same used old order (Ok home) used' lt frees takes live keeps apart = grown_houses used old order home used' lt frees takes live keeps apart
+    → IfOk answer (λ new. Takes (given used old) order new used') → MatchResult answer (IsUsedPlace used') (IsUsedPlace used') → KeepsOthers used old used'
+    → IfOk answer (StaysApart used old) → IfOk answer (λ new. GetsBlock used (Some old) order new used')
+grown_or_same used old order (Ok new) used' lt frees takes live keeps apart = grown_gets used old order new used' lt frees takes live keeps apart
 grown_or_same used old order (Err back) used' lt frees takes live keeps apart = tt
 
 -- a unit is in use or free
@@ -178,9 +178,9 @@ given_again used place live =
     taken-given used place (omega arith) live.lies
 
 -- a page that keeps its block
-pub kept_home : (used : List ℕ) (held : Option Place) → IsHome used held held
-kept_home used None = tt
-kept_home used (Some block) = (λ room. refl, λ more. absurd (omega arith))
+pub kept_block : (used : List ℕ) (held : Option Place) → IsNewBlock used held held
+kept_block used None = tt
+kept_block used (Some block) = (λ room. refl, λ more. absurd (omega arith))
 
 pub kept_units : (used : List ℕ) (held : Option Place) → IfSome held (IsUsedPlace used) → used ≡ moved used held held
 kept_units used None live = refl

@@ -30,24 +30,26 @@ IsAtPlan (plan.Packed order target exceptions) (Packed block t) = (block.order �
 IsAtPlan plan.Raw (Raw block) = block.order ≡ 3
 IsAtPlan plan desc = ⊥
 
--- the units in use without those of a block, and then with those of another
+-- the units in use without those of a block
 abbrev pub without : List ℕ → Option Place → List ℕ
 without used None = used
 without used (Some block) = given used block
 
+-- and with those of a block
 abbrev pub with_block : List ℕ → Option Place → List ℕ
 with_block used None = used
 with_block used (Some block) = taken used block
 
+-- the units in use where one block takes the place of another
 abbrev pub moved : List ℕ → Option Place → Option Place → List ℕ
 moved used before after = with_block (without used before) after
 
 -- Where the new block of a page lies: in the first units of its old one, where that has room for it, and else where the
 -- frames choose with the old one's units counted as free.
-abbrev pub IsHome : List ℕ → Option Place → Option Place → Type 0
-IsHome used before None = Unit {0}
-IsHome used None (Some block) = IsChoice used block.order block
-IsHome used (Some old) (Some block) = (block.order ≤ old.order → block.unit ≡ old.unit)
+abbrev pub IsNewBlock : List ℕ → Option Place → Option Place → Type 0
+IsNewBlock used before None = Unit {0}
+IsNewBlock used None (Some block) = IsChoice used block.order block
+IsNewBlock used (Some old) (Some block) = (block.order ≤ old.order → block.unit ≡ old.unit)
     × (old.order < block.order → IsChoice (given used old) block.order block)
 
 -- a page has no block of this order or above
@@ -58,7 +60,7 @@ Outgrows held order = IfSome held (λ block. block.order < order)
 pub record Settles (descriptors : List Desc) (used : List ℕ) (page : ℕ) (plan : PagePlan) (descriptors' : List Desc) (used' : List ℕ) : Type 0 where
   pub desc : Desc
   pub at_plan : IsAtPlan plan desc
-  pub home : IsHome used (block_at descriptors page) (block_of desc)
+  pub new_block : IsNewBlock used (block_at descriptors page) (block_of desc)
   pub descriptors_are : descriptors' ≡ slice_set descriptors page desc
   pub used_is : used' ≡ moved used (block_at descriptors page) (block_of desc)
 
@@ -85,6 +87,6 @@ pub record AreSound (descriptors : List Desc) (used : List ℕ) : Type 0 where
   pub owned : (unit : ℕ) → in_use used unit ≡ 1 → (page : ℕ) × ((block : Place) × ((block_at descriptors page ≡ Some block) × IsIn unit block))
 
 -- how each page is kept, and the bytes of the frames
-pub record Held : Type 0 where
+pub record HeldBlocks : Type 0 where
   pub descriptors : List Desc
   pub used : List ℕ

@@ -1,15 +1,15 @@
 use Rattle.std.proofs.Common.{arith}
 use Rattle.std.proofs.lemmas.Result.{on_err_weaker}
-use Rattle.page_store.proofs.HomeLemmas.{trimmed_houses, grown_or_same, none_grown}
-use Rattle.page_store.proofs.homes.reorder.Goals as goal
+use Rattle.page_store.proofs.MoveLemmas.{trimmed_gets, grown_or_same, none_grown}
+use Rattle.page_store.proofs.page_block.reorder.Goals as goal
 
-pub returns-then-order-clause-houses : goal.returns-then-order-clause-houses
-returns-then-order-clause-houses c =
+pub returns-then-order-clause-gets : goal.returns-then-order-clause-gets
+returns-then-order-clause-gets c =
     let ends = c.trim.ensures in
-    trimmed_houses c.args.frames.now c.args.block c.args.order c.trim.result c.trim.new.self (omega arith) ends.first ends.freed ends.after ends.units ends.live ends.keeps ends.apart
+    trimmed_gets c.args.frames.now c.args.block c.args.order c.trim.result c.trim.new.self (omega arith) ends.first ends.freed ends.after ends.units ends.live ends.keeps ends.apart
 
-pub returns-clause-houses : goal.returns-clause-houses
-returns-clause-houses c =
+pub returns-clause-gets : goal.returns-clause-gets
+returns-clause-gets c =
     let ends = c.resize.ensures in
     grown_or_same c.args.frames.now c.args.block c.args.order c.resize.result c.resize.new.self (omega arith) ends.freed ends.ok ends.live ends.keeps ends.apart
 
