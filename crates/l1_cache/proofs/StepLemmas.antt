@@ -14,8 +14,8 @@ use Rattle.recency.specs.declared.entry.Entry.{Entry}
 use Rattle.recency.specs.Uses.{last_of}
 use Rattle.recency.specs.Kept.{Kept, with_lines, has_room, entry_of, touched, touched_by, clean_last, put_in, dirty_victim, if_dirty, clean_entry}
 use Rattle.recency.specs.Levels.{set_at, set_of, with_set, kept_of, overlay, IsGood, IsGoodEntry, IsSound, IsFirst}
-use Rattle.recency.specs.Steps.{Changes, next_dirty, with_clean}
-use Rattle.recency.proofs.FlushLemmas.{flush_sound, clean_keeps_first}
+use Rattle.recency.specs.Steps.{Changes, with_clean}
+use Rattle.recency.proofs.FlushLemmas.{back_sound, clean_keeps_first}
 use Rattle.recency.proofs.ListLemmas.{slice_get-set_other, set-set}
 use Rattle.recency.proofs.EntryLemmas.{at_front, entry_of-is, good_entry, good_touched, last_entry, good_clean_last, good_elsewhere, entry_of-clean_none, last_of-clean_last}
 use Rattle.recency.proofs.LevelLemmas.{set_at-same, sound_step, overlay_step, shown_touched, shown_clean_last, shown_put_in, good_put_in, room_cases, unchanged, in_range}
@@ -209,10 +209,10 @@ clean_level {lines} {sets} level line e is none = record {
 }
 
 -- and after a line was written by a flush
-pub flush_level : {lines : List (List ℕ)} {sets : List Kept} {held : Option ℕ} {span : Span} (level : IsLevel lines sets held span) (e : Entry) → next_dirty sets ≡ Some e
+pub flush_level : {lines : List (List ℕ)} {sets : List Kept} {held : Option ℕ} {span : Span} (level : IsLevel lines sets held span) (e : Entry) → kept_of sets e.line ≡ Some e
     → IsLevel (set lines e.line e.bytes) (with_clean sets e.line) held span
-flush_level {lines} {sets} {held} level e next = record {
-  sound = flush_sound lines sets level.sound e next;
+flush_level {lines} {sets} {held} level e kept = record {
+  sound = back_sound lines sets level.sound e kept;
   first = still held level.first;
   size = rw length-set level.size;
 }
