@@ -1,5 +1,5 @@
 -- A second level above a layer.
-use Rattle.std.specs.Prelude.{◌≡◌, ◌<◌, ◌≤◌, ℕ, List, length, slice_index}
+use Rattle.std.specs.Prelude.{◌≡◌, ◌<◌, ◌≤◌, ◌*◌, ℕ, List, length, slice_index}
 use Rattle.hier_types.specs.declared.cache_counts.L2Counts.{L2Counts}
 use Rattle.hier_types.specs.declared.settings.Codec.{Codec}
 use Rattle.line_codec.specs.Slots.{size_under}
@@ -12,7 +12,7 @@ pub record Rooms : Type 0 where
   pub codec : Codec
   pub sets : List Kept
 
--- Each set has so many tags, and the segments that its lines take are known.
+-- Each set has so many tags and four segments for each, and the segments that its lines take are known.
 pub record IsMeasured (codec : Codec) (tags : ℕ) (sets : List Kept) (used : List ℕ) : Type 0 where
   pub some : 0 < length sets
   pub two : 2 ≤ tags
@@ -21,6 +21,7 @@ pub record IsMeasured (codec : Codec) (tags : ℕ) (sets : List Kept) (used : Li
   pub ways : (i : ℕ) → i < length sets → (set_at sets i).ways ≡ tags
   pub tagged : (i : ℕ) → i < length sets → length (set_at sets i).lines ≤ tags
   pub taken : (i : ℕ) → i < length sets → slice_index used i ≡ segments_sum (size_under codec) (set_at sets i).lines
+  pub fits : (i : ℕ) → i < length sets → segments_sum (size_under codec) (set_at sets i).lines ≤ 4 * tags
 
 -- what is seen of a second level; the cursor is the number of the cleaner's set
 pub record Seen (B : Type 0) : Type 0 where

@@ -161,7 +161,7 @@ impl<B: Layer> L2<B> {
 
     /// Writes a dirty line below, and marks it clean.
     fn write_back(&mut self, entry: &Entry) -> Result<(), NoSpace>
-        requires kept { kept_of self.old.sets entry.now.line ≡ Some entry.now }
+        requires { kept_of self.old.sets entry.now.line ≡ Some entry.now }
         ensures content { lines_of B.content self.new ≡ lines_of B.content self.old }
         ensures codec { self.new.codec ≡ self.old.codec }
         ensures cursor { self.new.cursor ≡ self.old.cursor }

@@ -1,7 +1,8 @@
 // Sets of lines in bounded room.
-ghost use Rattle.std.specs.Prelude.{◌≡◌, ◌<◌, ◌≤◌, ◌*◌, ◌%◌, ℕ, [], true, false, Some, None, length, is_some, replicate, IfOk, IfNone, MatchOption};
+ghost use Rattle.std.specs.Prelude.{◌≡◌, ◌<◌, ◌≤◌, ◌*◌, ◌%◌, ℕ, [], true, false, Some, None, length, is_some, replicate, slice_index, IfOk, IfNone, MatchOption};
 ghost use Rattle.hier_types.specs.Settings.{IsWithin, IsPowerOfTwo};
 ghost use Rattle.line_codec.specs.Slots.{size_under};
+ghost use Rattle.recency.specs.Uses.{last_of};
 ghost use Rattle.recency.specs.Kept.{without, entry_of, touched, last_dirty};
 ghost use Rattle.recency.specs.Levels.{set_at, set_of, with_set, kept_of};
 ghost use Rattle.recency.specs.Steps.{next_dirty, with_clean};
@@ -41,6 +42,14 @@ fn segments_of(codec: Codec, bytes: &Line) -> u32
     ensures most { result ≤ 8 }
 {
     (size(codec, bytes) as u32 + 7) / 8
+}
+
+/// The segments that the lines of a set take.
+fn used_by(used: &Vec<u32>, set: u32) -> u32
+    requires { set < length used.now.items }
+    ensures { result ≡ slice_index used.now.items set }
+{
+    used[set as usize]
 }
 
 /// The lines of a set but one: how many they are, and the segments that they take.
@@ -101,10 +110,10 @@ impl RoomSets {
     fn others(&self, line: u32) -> Others
         ensures count { result.count ≡ length (without (set_of self.now.sets line).lines line) }
         ensures segments { result.segments ≡ segments_sum (size_under self.now.codec) (without (set_of self.now.sets line).lines line) }
-        ensures few { result.segments ≤ 256 }
+        ensures few { result.segments ≤ 128 }
     {
         let count = self.sets.len_of(line);
-        let taken = self.used[self.sets.set_number(line) as usize];
+        let taken = used_by(&self.used, self.sets.set_number(line));
         match self.sets.entry(line) {
             Some(old) => Others {
                 count: count - 1,
@@ -117,14 +126,22 @@ impl RoomSets {
         }
     }
 
+    /// Whether there is room for these bytes of a line beside the other lines of its set.
+    fn has_space(&self, line: u32, bytes: &Line) -> bool
+        ensures test { result ≡ has_space (size_under self.now.codec) (set_of self.now.sets line).ways bytes.now (without (set_of self.now.sets line).lines line) }
+        ensures alone { last_of (without (set_of self.now.sets line).lines line) ≡ None → result ≡ true }
+    {
+        let others = self.others(line);
+        let needed = segments_of(self.codec, bytes);
+        others.count < self.tags && needed + others.segments <= 4 * self.tags
+    }
+
     /// The line that leaves next, where these bytes are to be kept of a line.
     pub(crate) fn leaver(&self, line: u32, bytes: &Line) -> Option<Entry>
         ensures leaver { result ≡ leaver (size_under self.now.codec) (set_of self.now.sets line) line bytes.now }
         ensures room { IfNone result (has_space (size_under self.now.codec) (set_of self.now.sets line).ways bytes.now (without (set_of self.now.sets line).lines line) ≡ true) }
     {
-        let others = self.others(line);
-        let needed = segments_of(self.codec, bytes);
-        if others.count < self.tags && needed + others.segments <= 4 * self.tags {
+        if self.has_space(line, bytes) {
             return None;
         }
         self.sets.oldest_other(line)
@@ -135,9 +152,9 @@ impl RoomSets {
         requires { entry_of (set_of self.old.sets line).lines entry.now.line ≡ Some entry.now }
         ensures { self.new ≡ record { codec = self.old.codec; sets = with_set self.old.sets line (without (set_of self.old.sets line).lines entry.now.line) } }
     {
-        let set = self.sets.set_number(line) as usize;
-        let left = self.used[set] - segments_of(self.codec, &entry.bytes);
-        self.used[set] = left;
+        let set = self.sets.set_number(line);
+        let left = used_by(&self.used, set) - segments_of(self.codec, &entry.bytes);
+        self.used[set as usize] = left;
         self.sets.remove_from(line, entry.line);
     }
 
@@ -147,8 +164,8 @@ impl RoomSets {
         ensures { self.new ≡ record { codec = self.old.codec; sets = in_front self.old.sets entry.now } }
     {
         let others = self.others(entry.line);
-        let set = self.sets.set_number(entry.line) as usize;
-        self.used[set] = others.segments + segments_of(self.codec, &entry.bytes);
+        let set = self.sets.set_number(entry.line);
+        self.used[set as usize] = others.segments + segments_of(self.codec, &entry.bytes);
         self.sets.put_front(entry);
     }
 
