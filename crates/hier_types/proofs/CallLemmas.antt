@@ -28,3 +28,9 @@ Makes-write_then {m = m} line bytes a did rest gives = record { calls = Write li
 pub Makes-weaker : {B : Type 0} {did_read : B → ℕ → Result (List ℕ) NoSpace → B → Type 0} {did_write : B → ℕ → List ℕ → Answer → B → Type 0}
     {s t : B} {Rest Gives : List Call → Type 0} → Makes did_read did_write s Rest t → ((calls : List Call) → Rest calls → Gives calls) → Makes did_read did_write s Gives t
 Makes-weaker rest gives = record { calls = rest.calls; made = rest.made; gives = gives rest.calls rest.gives }
+
+-- a read, and then others
+pub Makes-read_then : {B : Type 0} {did_read : B → ℕ → Result (List ℕ) NoSpace → B → Type 0} {did_write : B → ℕ → List ℕ → Answer → B → Type 0}
+    {s m t : B} {Rest Gives : List Call → Type 0} (line : ℕ) (a : Result (List ℕ) NoSpace) → did_read s line a m → Makes did_read did_write m Rest t
+    → ((calls : List Call) → Rest calls → Gives (Read line a ∷ calls)) → Makes did_read did_write s Gives t
+Makes-read_then {m = m} line a did rest gives = record { calls = Read line a ∷ rest.calls; made = (m, did, rest.made); gives = gives rest.calls rest.gives }

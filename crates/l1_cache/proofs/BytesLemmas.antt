@@ -78,20 +78,3 @@ module _ {lines : List (List ℕ)} {sets : List Kept} {held : Option ℕ} {span 
       subst (λ es. IsLevel lines (with_set sets (line_at span at) es) held span) (sym (poked_as byte))
       (over_level level (line_at span at) is (set (get_or (overlay lines sets) (line_at span at) []) ((at - first span) % 64) byte)
       (rw (length-set, bytes_at) (held_full level (line_at span at) is at_inside)))
-
--- what is copied from a kept line, and from below
-pub viewed : (lines : List (List ℕ)) (sets : List Kept) (line : ℕ) → line < length lines → (found : Bool) (old bytes : List ℕ)
-    → MatchOption (kept_of sets line) ((found ≡ false) × (bytes ≡ old)) (λ e. (found ≡ true) × (bytes ≡ e.bytes)) → found ≡ true → slice_get (overlay lines sets) line ≡ Some bytes
-viewed lines sets line inside found old bytes copied t = slice_get-overlay lines sets line ∙ go (kept_of sets line) refl copied
-  where
-    go : (kept : Option Entry) → kept_of sets line ≡ kept → MatchOption kept ((found ≡ false) × (bytes ≡ old)) (λ e. (found ≡ true) × (bytes ≡ e.bytes)) → option_map (bytes_or (kept_of sets line)) (slice_get lines line) ≡ Some bytes
-    go None is copied = absurd (let k : true ≡ false = sym t ∙ copied.0 in cc)
-    go (Some e) is copied = ap (λ k. option_map (bytes_or k) (slice_get lines line)) is ∙ ap (option_map (bytes_or (Some e))) (slice_get-get_or lines line [] inside) ∙ ap Some (sym copied.1)
-
-pub viewed_below : (lines : List (List ℕ)) (sets : List Kept) (line : ℕ) (found : Bool) (old bytes below : List ℕ)
-    → MatchOption (kept_of sets line) ((found ≡ false) × (bytes ≡ old)) (λ e. (found ≡ true) × (bytes ≡ e.bytes)) → found ≡ false → slice_get lines line ≡ Some below → slice_get (overlay lines sets) line ≡ Some below
-viewed_below lines sets line found old bytes below copied f there = slice_get-overlay lines sets line ∙ go (kept_of sets line) refl copied
-  where
-    go : (kept : Option Entry) → kept_of sets line ≡ kept → MatchOption kept ((found ≡ false) × (bytes ≡ old)) (λ e. (found ≡ true) × (bytes ≡ e.bytes)) → option_map (bytes_or (kept_of sets line)) (slice_get lines line) ≡ Some below
-    go None is copied = ap (λ k. option_map (bytes_or k) (slice_get lines line)) is ∙ ap (option_map (bytes_or None)) there
-    go (Some e) is copied = absurd (let k : true ≡ false = sym copied.0 ∙ f in cc)

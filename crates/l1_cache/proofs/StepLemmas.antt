@@ -14,11 +14,11 @@ use Rattle.recency.specs.declared.entry.Entry.{Entry}
 use Rattle.recency.specs.Uses.{last_of}
 use Rattle.recency.specs.Kept.{Kept, with_lines, has_room, entry_of, touched, touched_by, clean_last, put_in, dirty_victim, if_dirty, clean_entry}
 use Rattle.recency.specs.Levels.{set_at, set_of, with_set, kept_of, overlay, IsGood, IsGoodEntry, IsSound, IsFirst}
-use Rattle.recency.specs.Steps.{Changes, next_dirty, with_clean}
-use Rattle.recency.proofs.FlushLemmas.{flush_sound, clean_keeps_first}
+use Rattle.recency.specs.Steps.{Changes, with_clean}
+use Rattle.recency.proofs.FlushLemmas.{back_sound, clean_keeps_first}
 use Rattle.recency.proofs.ListLemmas.{slice_get-set_other, set-set}
-use Rattle.recency.proofs.EntryLemmas.{at_front, entry_of-is, good_entry, good_touched, last_entry, good_clean_last, good_elsewhere, entry_of-clean_none, last_of-clean_last}
-use Rattle.recency.proofs.LevelLemmas.{set_at-same, sound_step, overlay_step, shown_touched, shown_clean_last, shown_put_in, good_put_in, room_cases, unchanged, in_range}
+use Rattle.recency.proofs.EntryLemmas.{at_front, entry_of-is, good_entry, last_entry, good_clean_last, good_elsewhere, entry_of-clean_none, last_of-clean_last}
+use Rattle.recency.proofs.LevelLemmas.{set_at-same, sound_step, overlay_step, kept_some, touch_sound, touch_same, shown_clean_last, shown_put_in, good_put_in, room_cases, unchanged, in_range}
 use Rattle.l1_cache.specs.FirstLevel.{IsLevel}
 use Rattle.l1_cache.specs.Touches.{Brings, Misses, TouchesSet, Steps, counted}
 
@@ -56,10 +56,6 @@ pub not_kept : (kept : Option Entry) → is_some kept ≡ false → kept ≡ Non
 not_kept None is = refl
 not_kept (Some e) is = absurd (let k = is in cc)
 
-kept_some : (kept : Option Entry) → is_some kept ≡ true → (e : Entry) × (kept ≡ Some e)
-kept_some None is = absurd (let k = is in cc)
-kept_some (Some e) is = (e, refl)
-
 touched_front : (es : List Entry) (line : ℕ) (e : Entry) → entry_of es line ≡ Some e → slice_get (touched es line) 0 ≡ Some e
 touched_front es line e is = rw is refl
 
@@ -73,18 +69,6 @@ touch_hit sets counts line kept =
 module _ (lines : List (List ℕ)) (sets : List Kept) (line : ℕ) (sound : IsSound lines sets) where
   range : line % length sets < length sets
   range = in_range lines sets line sound
-
-  pub touch_sound : is_some (kept_of sets line) ≡ true → IsSound lines (with_set sets line (touched (set_of sets line).lines line))
-  touch_sound kept =
-      let e = kept_some (kept_of sets line) kept in
-      sound_step lines lines sets (line % length sets) (with_lines (set_of sets line) (touched (set_of sets line).lines line)) sound sound.whole range (sound.ways (line % length sets) range)
-      (λ j apart. sound.good j) (good_touched lines (length sets) (line % length sets) (set_of sets line).lines line e.0 (sound.good (line % length sets)) e.1)
-
-  pub touch_same : is_some (kept_of sets line) ≡ true → overlay lines (with_set sets line (touched (set_of sets line).lines line)) ≡ overlay lines sets
-  touch_same kept =
-      let e = kept_some (kept_of sets line) kept in
-      overlay_step lines lines sets (line % length sets) (with_lines (set_of sets line) (touched (set_of sets line).lines line)) range
-      (λ x at. shown_touched lines (set_of sets line).lines line e.0 e.1 x) (λ x apart. refl)
 
   pub touch_first : is_some (kept_of sets line) ≡ true → IsFirst (with_set sets line (touched (set_of sets line).lines line)) line
   touch_first kept =
@@ -209,10 +193,10 @@ clean_level {lines} {sets} level line e is none = record {
 }
 
 -- and after a line was written by a flush
-pub flush_level : {lines : List (List ℕ)} {sets : List Kept} {held : Option ℕ} {span : Span} (level : IsLevel lines sets held span) (e : Entry) → next_dirty sets ≡ Some e
+pub flush_level : {lines : List (List ℕ)} {sets : List Kept} {held : Option ℕ} {span : Span} (level : IsLevel lines sets held span) (e : Entry) → kept_of sets e.line ≡ Some e
     → IsLevel (set lines e.line e.bytes) (with_clean sets e.line) held span
-flush_level {lines} {sets} {held} level e next = record {
-  sound = flush_sound lines sets level.sound e next;
+flush_level {lines} {sets} {held} level e kept = record {
+  sound = back_sound lines sets level.sound e kept;
   first = still held level.first;
   size = rw length-set level.size;
 }

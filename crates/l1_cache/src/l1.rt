@@ -7,7 +7,7 @@ ghost use Rattle.hier_types.specs.Settings.{IsWithin, IsPowerOfTwo};
 ghost use Rattle.hier_types.specs.Span.{Span, first, line_at};
 ghost use Rattle.recency.specs.Kept.{clean_last, dirty_victim, overwritten, poked};
 ghost use Rattle.recency.specs.Levels.{set_of, with_set, kept_of, overlay, IsFirst, FirstHas, KeepsUnder};
-ghost use Rattle.recency.specs.Steps.{next_dirty, with_clean, Flushes};
+ghost use Rattle.recency.specs.Steps.{with_clean, Flushes};
 ghost use Rattle.l1_cache.specs.FirstLevel.{lines_of};
 ghost use Rattle.l1_cache.specs.Touches.{Brings, Misses, Steps, Touches, Reads, Writes};
 
@@ -127,9 +127,9 @@ impl<B: Layer> L1<B> {
         Ok(())
     }
 
-    /// Writes the line below that a flush writes next, and marks it clean.
+    /// Writes a line below that is kept, and marks it clean.
     fn write_back(&mut self, entry: &Entry) -> Result<(), NoSpace>
-        requires { next_dirty self.old.sets ≡ Some entry.now }
+        requires { kept_of self.old.sets entry.now.line ≡ Some entry.now }
         ensures content { lines_of B.content self.new ≡ lines_of B.content self.old }
         ensures held { self.new.held ≡ self.old.held }
         ensures counts { self.new.counts ≡ self.old.counts }

@@ -7,11 +7,11 @@ use Rattle.recency.proofs.ListLemmas.{slice_get-set, slice_get-set_other}
 use Rattle.hier_types.proofs.LineLemmas.{lines-set}
 use Rattle.recency.specs.declared.entry.Entry.{Entry}
 use Rattle.recency.specs.Kept.{Kept, with_lines, entry_of, cleaned, last_dirty, last_dirty_from, clean_in}
-use Rattle.recency.specs.Levels.{set_at, set_of, with_set, bytes_or, overlay, IsGood, IsGoodEntry, IsSound, IsFirst}
+use Rattle.recency.specs.Levels.{set_at, set_of, with_set, kept_of, bytes_or, overlay, IsGood, IsGoodEntry, IsSound, IsFirst}
 use Rattle.recency.specs.Steps.{next_dirty, next_dirty_or, with_clean}
 use Rattle.recency.proofs.UseLemmas.{by_eq}
 use Rattle.recency.proofs.EntryLemmas.{at_front, past_front, good_entry, good_elsewhere}
-use Rattle.recency.proofs.LevelLemmas.{shown, shown_kept, set_at-same, set_at-other, sound_step, overlay_step}
+use Rattle.recency.proofs.LevelLemmas.{shown, shown_kept, set_at-same, set_at-other, sound_step, overlay_step, in_range}
 
 abbrev clean_if : ℕ → Entry → Entry
 clean_if line e = if e.line == line then cleaned e else e
@@ -156,24 +156,13 @@ module _ (lines : List (List ℕ)) (sets : List Kept) (sound : IsSound lines set
       ap (λ (k : Kept). last_dirty k.lines) (set_at-other sets (e.line % length sets) i (with_lines (set_of sets e.line) (clean_in (set_of sets e.line).lines e.line)) (λ y. absurd (omega arith)))
       ∙ next_before i before
 
-  pub next_inside : e.line < length lines
-  next_inside = (good_entry lines (length sets) (e.line % length sets) (set_of sets e.line).lines e.line e (sound.good (e.line % length sets)) next_kept.1).inside
-
-  pub next_full : length e.bytes ≡ 64
-  next_full = (good_entry lines (length sets) (e.line % length sets) (set_of sets e.line).lines e.line e (sound.good (e.line % length sets)) next_kept.1).full
-
-  pub flush_sound : IsSound (set lines e.line e.bytes) (with_clean sets e.line)
-  flush_sound =
-      sound_step lines (set lines e.line e.bytes) sets (e.line % length sets) (with_lines (set_of sets e.line) (clean_in (set_of sets e.line).lines e.line)) sound (lines-set lines e.line e.bytes sound.whole next_full) next_kept.0 (sound.ways _ next_kept.0)
-      (λ j apart. good_elsewhere lines (length sets) j (set_at sets j).lines e.line e.bytes apart (sound.good j))
-      (good_clean_in lines (length sets) (e.line % length sets) (set_of sets e.line).lines e.line e.bytes (sound.good (e.line % length sets))
-      (λ f is. (let q : Some f ≡ Some e = sym is ∙ next_kept.1 in let same : f ≡ e = cc in ap (λ z. z.bytes) same)))
-
-  pub flush_same : overlay (set lines e.line e.bytes) (with_clean sets e.line) ≡ overlay lines sets
-  flush_same =
-      overlay_step lines (set lines e.line e.bytes) sets (e.line % length sets) (with_lines (set_of sets e.line) (clean_in (set_of sets e.line).lines e.line)) next_kept.0
-      (λ x at. shown_clean_in lines (length sets) (e.line % length sets) (set_of sets e.line).lines e (sound.good (e.line % length sets)) next_kept.1 x)
-      (λ x apart. slice_get-set_other lines e.line x e.bytes (λ y. apart (ap (λ z. z % length sets) (sym y))))
+-- the last dirty entry of a set is kept in the set of its line
+pub turn_kept : (lines : List (List ℕ)) (sets : List Kept) (sound : IsSound lines sets) (i : ℕ) (e : Entry) → last_dirty (set_at sets i).lines ≡ Some e → kept_of sets e.line ≡ Some e
+turn_kept lines sets sound i e is = elim (last_dirty_is lines (length sets) i (set_at sets i).lines None e (sound.good i) is) [
+      inl k ↦ absurd (let q = k in cc)
+    | inr k ↦ (
+        let home : e.line % length sets ≡ i = (good_entry lines (length sets) i (set_at sets i).lines e.line e (sound.good i) k.0).home in
+        subst (λ j. entry_of (set_at sets j).lines e.line ≡ Some e) (sym home) k.0) ]
 
 -- how many entries are dirty
 abbrev pub dirty_in : List Entry → ℕ
@@ -209,12 +198,34 @@ sum_falls [] i k inside less = absurd (omega arith)
 sum_falls (h ∷ sets) zero k inside less = omega arith
 sum_falls (h ∷ sets) (suc i) k inside less = let rest = sum_falls sets i k (omega arith) less in omega arith
 
-pub flush_falls : (lines : List (List ℕ)) (sets : List Kept) (sound : IsSound lines sets) (e : Entry) (next : next_dirty sets ≡ Some e)
-    → dirty_sum (with_clean sets e.line) < dirty_sum sets
-flush_falls lines sets sound e next =
-    let k = next_kept lines sets sound e next in
-    sum_falls sets (e.line % length sets) (with_lines (set_of sets e.line) (clean_in (set_of sets e.line).lines e.line)) k.0
-    (dirty_falls (set_of sets e.line).lines e e.line k.1 k.2)
+-- a line that is kept is written below, and made clean
+module _ (lines : List (List ℕ)) (sets : List Kept) (sound : IsSound lines sets) (e : Entry) (kept : kept_of sets e.line ≡ Some e) where
+  range : e.line % length sets < length sets
+  range = in_range lines sets e.line sound
+
+  good_back : IsGoodEntry lines (length sets) (e.line % length sets) e
+  good_back = good_entry lines (length sets) (e.line % length sets) (set_of sets e.line).lines e.line e (sound.good (e.line % length sets)) kept
+
+  pub back_inside : e.line < length lines
+  back_inside = good_back.inside
+
+  pub back_sound : IsSound (set lines e.line e.bytes) (with_clean sets e.line)
+  back_sound =
+      sound_step lines (set lines e.line e.bytes) sets (e.line % length sets) (with_lines (set_of sets e.line) (clean_in (set_of sets e.line).lines e.line)) sound (lines-set lines e.line e.bytes sound.whole good_back.full) range (sound.ways _ range)
+      (λ j apart. good_elsewhere lines (length sets) j (set_at sets j).lines e.line e.bytes apart (sound.good j))
+      (good_clean_in lines (length sets) (e.line % length sets) (set_of sets e.line).lines e.line e.bytes (sound.good (e.line % length sets))
+        (λ f is. (let q : Some f ≡ Some e = sym is ∙ kept in let same : f ≡ e = cc in ap (λ z. z.bytes) same)))
+
+  pub back_same : overlay (set lines e.line e.bytes) (with_clean sets e.line) ≡ overlay lines sets
+  back_same =
+      overlay_step lines (set lines e.line e.bytes) sets (e.line % length sets) (with_lines (set_of sets e.line) (clean_in (set_of sets e.line).lines e.line)) range
+      (λ x at. shown_clean_in lines (length sets) (e.line % length sets) (set_of sets e.line).lines e (sound.good (e.line % length sets)) kept x)
+      (λ x apart. slice_get-set_other lines e.line x e.bytes (λ y. apart (ap (λ z. z % length sets) (sym y))))
+
+  pub back_falls : e.dirty ≡ true → dirty_sum (with_clean sets e.line) < dirty_sum sets
+  back_falls dirty =
+      sum_falls sets (e.line % length sets) (with_lines (set_of sets e.line) (clean_in (set_of sets e.line).lines e.line)) range
+      (dirty_falls (set_of sets e.line).lines e e.line kept dirty)
 
 -- the most recent line of a set stays so where one is made clean
 pub clean_keeps_first : (sets : List Kept) (l line : ℕ) → l % length sets < length sets → IsFirst sets line → IsFirst (with_clean sets l) line

@@ -1,7 +1,7 @@
 -- What a change of one set, or of the layer below, does to the whole.
 use Rattle.std.proofs.Common.{◌≡◌, ◌≢◌, ◌<◌, ◌+◌, ◌%◌, ◌==◌, ℕ, zero, suc, Bool, true, false, List, [], ◌∷◌, Option, Some, None, length, length-set, set, cond, refl, sym, ap, ◌∙◌, subst, arith, get_or, nat_lt, ◌≤◌, ◌-◌, ◌^◌, if◌then◌else◌, bit_and, replicate}
 use Rattle.std.specs.List.{slice_get}
-use Rattle.std.specs.Option.{option_map, unwrap_or, is_some}
+use Rattle.std.specs.Option.{option_map, unwrap_or, is_some, MatchOption}
 use Rattle.std.proofs.lemmas.Bool.{ltb-false}
 use Rattle.std.proofs.lemmas.Option.{slice_get-get_or, slice_get_within, get_or_from_slice_get}
 use Rattle.recency.proofs.ListLemmas.{slice_get-set, slice_get-set_other, set_there, same_lists}
@@ -190,3 +190,45 @@ masked_sets made sets k is power =
     let some = pow_pos power.0 in
     let e = power.1 in
     record { size = omega arith; power = rw size power }
+
+-- a kept line is touched
+pub kept_some : (kept : Option Entry) → is_some kept ≡ true → (e : Entry) × (kept ≡ Some e)
+kept_some None is = absurd (let k = is in cc)
+kept_some (Some e) is = (e, refl)
+
+pub touch_sound : (lines : List (List ℕ)) (sets : List Kept) (line : ℕ) (sound : IsSound lines sets) → is_some (kept_of sets line) ≡ true → IsSound lines (with_set sets line (touched (set_of sets line).lines line))
+touch_sound lines sets line sound kept =
+    let e = kept_some (kept_of sets line) kept in
+    sound_step lines lines sets (line % length sets) (with_lines (set_of sets line) (touched (set_of sets line).lines line)) sound sound.whole (in_range lines sets line sound) (sound.ways (line % length sets) (in_range lines sets line sound))
+    (λ j apart. sound.good j) (good_touched lines (length sets) (line % length sets) (set_of sets line).lines line e.0 (sound.good (line % length sets)) e.1)
+
+pub touch_same : (lines : List (List ℕ)) (sets : List Kept) (line : ℕ) (sound : IsSound lines sets) → is_some (kept_of sets line) ≡ true → overlay lines (with_set sets line (touched (set_of sets line).lines line)) ≡ overlay lines sets
+touch_same lines sets line sound kept =
+    let e = kept_some (kept_of sets line) kept in
+    overlay_step lines lines sets (line % length sets) (with_lines (set_of sets line) (touched (set_of sets line).lines line)) (in_range lines sets line sound)
+    (λ x at. shown_touched lines (set_of sets line).lines line e.0 e.1 x) (λ x apart. refl)
+
+-- what is copied from a kept line, and from below
+pub viewed : (lines : List (List ℕ)) (sets : List Kept) (line : ℕ) → line < length lines → (found : Bool) (old bytes : List ℕ)
+    → MatchOption (kept_of sets line) ((found ≡ false) × (bytes ≡ old)) (λ e. (found ≡ true) × (bytes ≡ e.bytes)) → found ≡ true → slice_get (overlay lines sets) line ≡ Some bytes
+viewed lines sets line inside found old bytes copied t = slice_get-overlay lines sets line ∙ go (kept_of sets line) refl copied
+  where
+    go : (kept : Option Entry) → kept_of sets line ≡ kept → MatchOption kept ((found ≡ false) × (bytes ≡ old)) (λ e. (found ≡ true) × (bytes ≡ e.bytes)) → option_map (bytes_or (kept_of sets line)) (slice_get lines line) ≡ Some bytes
+    go None is copied = absurd (let k : true ≡ false = sym t ∙ copied.0 in cc)
+    go (Some e) is copied = ap (λ k. option_map (bytes_or k) (slice_get lines line)) is ∙ ap (option_map (bytes_or (Some e))) (slice_get-get_or lines line [] inside) ∙ ap Some (sym copied.1)
+
+pub viewed_below : (lines : List (List ℕ)) (sets : List Kept) (line : ℕ) (found : Bool) (old bytes below : List ℕ)
+    → MatchOption (kept_of sets line) ((found ≡ false) × (bytes ≡ old)) (λ e. (found ≡ true) × (bytes ≡ e.bytes)) → found ≡ false → slice_get lines line ≡ Some below → slice_get (overlay lines sets) line ≡ Some below
+viewed_below lines sets line found old bytes below copied f there = slice_get-overlay lines sets line ∙ go (kept_of sets line) refl copied
+  where
+    go : (kept : Option Entry) → kept_of sets line ≡ kept → MatchOption kept ((found ≡ false) × (bytes ≡ old)) (λ e. (found ≡ true) × (bytes ≡ e.bytes)) → option_map (bytes_or (kept_of sets line)) (slice_get lines line) ≡ Some below
+    go None is copied = ap (λ k. option_map (bytes_or k) (slice_get lines line)) is ∙ ap (option_map (bytes_or None)) there
+    go (Some e) is copied = absurd (let k : true ≡ false = sym copied.0 ∙ f in cc)
+
+-- what was copied is kept
+pub copied_kept : (sets : List Kept) (line : ℕ) (found : Bool) (old bytes : List ℕ) → MatchOption (kept_of sets line) ((found ≡ false) × (bytes ≡ old)) (λ e. (found ≡ true) × (bytes ≡ e.bytes)) → found ≡ true → is_some (kept_of sets line) ≡ true
+copied_kept sets line found old bytes copied t = go (kept_of sets line) refl copied
+  where
+  go : (kept : Option Entry) → kept_of sets line ≡ kept → MatchOption kept ((found ≡ false) × (bytes ≡ old)) (λ e. (found ≡ true) × (bytes ≡ e.bytes)) → is_some (kept_of sets line) ≡ true
+  go None is copied = absurd (let k : true ≡ false = sym t ∙ copied.0 in cc)
+  go (Some e) is copied = ap is_some is

@@ -1,7 +1,7 @@
 use Rattle.std.proofs.Common.{◌≡◌, ◌<◌, Some, None, Ok, Err, refl, sym, ◌∙◌, ap, subst, arith}
 use Rattle.hier_types.proofs.CallLemmas.{Makes-none, Makes-write, Makes-write_then}
 use Rattle.recency.specs.Steps.{next_dirty, with_clean}
-use Rattle.recency.proofs.FlushLemmas.{AreClean, dirty_sum, flush_falls, next_before_clean}
+use Rattle.recency.proofs.FlushLemmas.{AreClean, dirty_sum, back_falls, next_kept, next_before_clean}
 use Rattle.l1_cache.proofs.l1.L1.flush.Goals as goal
 
 pub returns-in-Err-clause-did : goal.returns-in-Err-clause-did
@@ -10,10 +10,13 @@ returns-in-Err-clause-did g c =
     c.loop-entry.invariant.on _ _ _ (Makes-write c.in-Some.entry.line c.in-Some.entry.bytes (Err c.in-Err.refusal) c.in-Err.ensures.did
     (c.in-Some.entry, next, refl, refl, refl, refl, c.in-Err.ensures.err))
 
+pub write_back-requires : goal.write_back-requires
+write_back-requires g c = rw (← c.self.view_is) (next_kept (g.B.Layer.content c.self.inside.below) c.self.inside.sets c.self.invariant.sound c.in-Some.entry (sym c.in-Some.ensures)).1
+
 pub loop-entry-smaller : goal.loop-entry-smaller
 loop-entry-smaller g c =
-    rw (c.in_default-write_back.ensures.ok, ← c.self.view_is)
-    (flush_falls (g.B.Layer.content c.self.inside.below) c.self.inside.sets c.self.invariant.sound c.in-Some.entry (sym c.in-Some.ensures))
+    let kept = next_kept (g.B.Layer.content c.self.inside.below) c.self.inside.sets c.self.invariant.sound c.in-Some.entry (sym c.in-Some.ensures) in
+    rw (c.in_default-write_back.ensures.ok, ← c.self.view_is) (back_falls (g.B.Layer.content c.self.inside.below) c.self.inside.sets c.self.invariant.sound c.in-Some.entry kept.1 kept.2)
 
 pub loop-entry-preserved : goal.loop-entry-preserved
 loop-entry-preserved g c =

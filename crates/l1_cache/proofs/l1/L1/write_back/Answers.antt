@@ -1,11 +1,11 @@
 use Rattle.std.proofs.Common.{◌≡◌, ◌∙◌, ap, length, length-set}
 use Rattle.std.specs.Option.{IfSome}
-use Rattle.recency.proofs.FlushLemmas.{next_inside, flush_sound, flush_same}
+use Rattle.recency.proofs.FlushLemmas.{back_inside, back_same}
 use Rattle.l1_cache.proofs.StepLemmas.{flush_level}
 use Rattle.l1_cache.proofs.l1.L1.write_back.Goals as goal
 
 pub write-requires : goal.write-requires
-write-requires g c = next_inside (g.B.Layer.content c.self.inside.below) c.self.inside.sets c.self.invariant.sound c.args.entry.now (rw (← c.self.view_is) at c.requires)
+write-requires g c = back_inside (g.B.Layer.content c.self.inside.below) c.self.inside.sets c.self.invariant.sound c.args.entry.now (rw (← c.self.view_is) at c.requires)
 
 pub invariant_of-self-2 : goal.invariant_of-self-2
 invariant_of-self-2 g c =
@@ -13,4 +13,4 @@ invariant_of-self-2 g c =
 
 pub returns-clause-content : goal.returns-clause-content
 returns-clause-content g c =
-    rw (← c.self.view_is) (rw (c.clean.ensures, c.in_default.ensures.ok) (flush_same (g.B.Layer.content c.self.inside.below) c.self.inside.sets c.self.invariant.sound c.args.entry.now (rw (← c.self.view_is) at c.requires)))
+    rw (← c.self.view_is) (rw (c.clean.ensures, c.in_default.ensures.ok) (back_same (g.B.Layer.content c.self.inside.below) c.self.inside.sets c.self.invariant.sound c.args.entry.now (rw (← c.self.view_is) at c.requires)))

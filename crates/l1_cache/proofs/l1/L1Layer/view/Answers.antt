@@ -1,7 +1,6 @@
 use Rattle.std.proofs.Common.{◌≡◌, ◌∙◌, Some, sym, ap}
 use Rattle.recency.specs.Levels.{kept_of}
-use Rattle.recency.proofs.LevelLemmas.{length-overlay}
-use Rattle.l1_cache.proofs.BytesLemmas.{viewed, viewed_below}
+use Rattle.recency.proofs.LevelLemmas.{length-overlay, viewed, viewed_below}
 use Rattle.l1_cache.proofs.l1.L1Layer.view.Goals as goal
 
 pub returns-then-copy_of : goal.returns-then-copy_of

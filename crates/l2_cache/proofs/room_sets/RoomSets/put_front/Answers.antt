@@ -1,0 +1,1 @@
+use Rattle.l2_cache.proofs.room_sets.RoomSets.put_front.Goals as goal

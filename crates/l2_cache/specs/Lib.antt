@@ -1,0 +1,3 @@
+pub mod Room
+pub mod SecondLevel
+pub mod Turns

@@ -1,0 +1,11 @@
+//! The second cache level: sets of lines with their sizes, in bounded room, over any layer.
+//! Contracts see the lines that each set keeps, the most recent first, the counts, the cleaner's set and the layer below.
+//! It never looks behind the layer below, and never lets a dirty line go that was not written there.
+#![tactic(auto)]
+
+mod clean;
+mod l2;
+mod room_sets;
+
+pub use clean::Clean;
+pub use l2::L2;
