@@ -1,6 +1,6 @@
 -- A first level above a layer.
 use Rattle.std.specs.Prelude.{◌≡◌, ◌*◌, ℕ, List, Option, IfSome, length}
-use Rattle.hier_types.specs.declared.cache_counts.L1Counts.{L1Counts}
+use Rattle.hier_types.specs.declared.counts.L1Counts.{L1Counts}
 use Rattle.hier_types.specs.Span.{Span}
 use Rattle.recency.specs.Kept.{Kept}
 use Rattle.recency.specs.Levels.{overlay, IsSound, IsFirst}

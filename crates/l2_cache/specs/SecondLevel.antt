@@ -1,6 +1,6 @@
 -- A second level above a layer.
 use Rattle.std.specs.Prelude.{◌≡◌, ◌<◌, ◌≤◌, ◌*◌, ℕ, List, length, slice_index}
-use Rattle.hier_types.specs.declared.cache_counts.L2Counts.{L2Counts}
+use Rattle.hier_types.specs.declared.counts.L2Counts.{L2Counts}
 use Rattle.hier_types.specs.declared.settings.Codec.{Codec}
 use Rattle.line_codec.specs.Slots.{size_under}
 use Rattle.recency.specs.Kept.{Kept}

@@ -1,6 +1,6 @@
 -- What reads, writes and turns of the cleaner do to the sets and the counts, with the calls that they make below.
 use Rattle.std.specs.Prelude.{◌≡◌, ◌+◌, ◌==◌, ℕ, Bool, true, List, [], ◌∷◌, ◌++◌, Option, Some, None, Result, Ok, Err, length, if◌then◌else◌, MatchOption, MatchResult, MatchBool}
-use Rattle.hier_types.specs.declared.cache_counts.L2Counts.{L2Counts}
+use Rattle.hier_types.specs.declared.counts.L2Counts.{L2Counts}
 use Rattle.hier_types.specs.declared.faults.NoSpace.{NoSpace}
 use Rattle.hier_types.specs.Calls.{Answer, Call, Read, Write}
 use Rattle.hier_types.specs.Causes.{raised}
