@@ -1,5 +1,4 @@
-pub mod CalmLemmas
-pub mod FilledLemmas
-pub mod HeldLemmas
+pub mod PlacedLemmas
+pub mod MemoryLemmas
 pub mod RunLemmas
 pub mod WordLemmas

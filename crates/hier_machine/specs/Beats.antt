@@ -2,14 +2,18 @@
 use Rattle.std.specs.Prelude.{◌≡◌, Bool, true, false, Option, Some, None}
 use Rattle.hier_types.specs.declared.beats.Beat.{Beat}
 use Rattle.hier_types.specs.declared.beats.Beat.TheVariants.{Hart, Mover, Cleaner}
+use Rattle.hier_types.specs.PortCalls.{MadeInOrder}
 use Rattle.sys_shim.specs.Streams.{AreUntouched, Streams}
 use Rattle.rv_guest.specs.declared.ends.MachineEnd.{MachineEnd}
-use Rattle.rv_guest.specs.Beat.{DoesBeat}
+use Rattle.rv_guest.specs.Beat.{DoesBeat, IsJustified}
+use Rattle.rv_guest.specs.Lines.{lines_at, pokes_at, stop_of}
+use Rattle.page_store.specs.Crowds.{Crowded}
+use Rattle.hier_machine.specs.Memory.{PokeMemory, TouchMemory, store_of}
 use Rattle.hier_machine.specs.State.{State}
 
 -- what no beat changes
 pub record Stays (old new : State) : Type 0 where
-  pub span : new.span ≡ old.span
+  pub span : new.memory.span ≡ old.memory.span
   pub budget : new.budget ≡ old.budget
   pub beats : new.beats ≡ old.beats
 
@@ -18,9 +22,12 @@ abbrev pub is_end : Option MachineEnd → Bool
 is_end None = false
 is_end (Some end) = true
 
--- A beat of the hart is one instruction of the guest.
+-- A beat of the hart is one instruction of the guest. It touches its lines in order and then pokes, through both levels and
+-- the store; where a touch is refused, nothing follows it, and the store is crowded.
 pub record HartBeats (old : State) (result : Option MachineEnd) (new : State) (streams : Streams) : Type 0 where
-  pub does : DoesBeat old.span old.guest result new.guest streams
+  pub does : DoesBeat old.memory.span old.guest result new.guest streams
+  pub made : MadeInOrder TouchMemory PokeMemory old.memory (lines_at old.memory.span old.guest) (pokes_at old.memory.span old.guest result new.guest.hart) (stop_of result) new.memory
+  pub cause : IsJustified (store_of old.memory).stops (store_of new.memory).stops (Crowded (store_of new.memory)) result
   pub stays : Stays old new
   pub ended : new.ended ≡ is_end result
 

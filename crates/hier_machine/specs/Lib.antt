@@ -1,7 +1,7 @@
 pub mod Beats
-pub mod Calm
-pub mod Held
-pub mod Loaded
+pub mod Lines
+pub mod Memory
+pub mod Placed
 pub mod Runs
 pub mod Start
 pub mod State

@@ -1,12 +1,12 @@
 -- What contracts see of a machine.
 use Rattle.std.specs.Prelude.{ℕ, List, Bool}
 use Rattle.hier_types.specs.declared.beats.Beat.{Beat}
-use Rattle.hier_types.specs.Span.{Span}
 use Rattle.rv_guest.specs.State as guest
+use Rattle.hier_machine.specs.Memory.{Memory}
 
--- the guest's span, and its state with its bytes; how many instructions may retire; the word of beats; and whether the run has ended
+-- the memory with both cache levels; the guest's state, with the bytes that the memory has; how many instructions may retire; the word of beats; and whether the run has ended
 pub record State : Type 0 where
-  pub span : Span
+  pub memory : Memory
   pub guest : guest.State
   pub budget : ℕ
   pub beats : List Beat

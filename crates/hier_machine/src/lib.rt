@@ -1,12 +1,12 @@
-//! The machine: the hart over its memory, beat by beat. Contracts see the registers, the guest's bytes and the
-//! number of instructions that retired, and say each beat and each run by the same instructions over flat memory.
+//! The machine: the guest over two cache levels and a memory of pages, beat by beat. Contracts see the guest's state, what
+//! both levels keep and how the pages lie, and say each beat and each run by the same instructions over flat memory.
 //! It knows nothing of files, words and streams, and takes no memory once it is open.
 #![tactic(auto)]
 
 mod ends;
-mod held_line;
-mod loading;
 mod machine;
+mod opening;
+mod page_view;
 #[cfg(test)]
 mod tests;
 

@@ -1,27 +1,29 @@
-// The hart over its memory, beat by beat.
-ghost use Rattle.std.specs.Prelude.{◌≡◌, ◌≢◌, ◌*◌, ◌-◌, ◌^◌, ◌<◌, ◌≤◌, false, Some, IfOk, take, drop};
+// The guest over its memory, beat by beat.
+ghost use Rattle.std.specs.Prelude.{◌≡◌, ◌*◌, ◌-◌, ◌^◌, ◌<◌, ◌≤◌, false, IfErr, IfOk, length, take, drop};
 ghost use Rattle.hier_types.specs.Settings.{AreWithinRules};
-ghost use Rattle.hier_types.specs.declared.faults.NoSpace.{NoSpace};
 ghost use Rattle.sys_shim.specs.Streams.{FaultsStay, stream, streams};
-ghost use Rattle.rv_guest.specs.declared.ends.MachineEnd.TheVariants.{Space};
 ghost use Rattle.hier_machine.specs.Beats.{Beats, HartBeats};
+ghost use Rattle.hier_machine.specs.Placed.{IsOpenFault};
 ghost use Rattle.hier_machine.specs.Runs.{Runs};
-ghost use Rattle.hier_machine.specs.Start.{start_state};
+ghost use Rattle.hier_machine.specs.Start.{Starts, start_memory};
 
 use crate::ends::OpenFault;
-use crate::held_line::HeldLine;
-use crate::loading::loaded;
+use crate::opening::place_image;
+use crate::page_view::view_page;
 use elf_image::Image;
-use hier_types::{Beat, BeatWord, PageNo, PlainLines, Settings, Sink, Source};
+use hier_types::{Beat, BeatWord, Layer, NoMemory, PageNo, Port, Settings, Sink, Source};
+use l1_cache::L1;
+use l2_cache::L2;
+use page_store::Pages;
 use rv_core::Regs;
 use rv_guest::{Guest, MachineEnd};
 use std::alloc::Global;
 use std::marker::Model;
 
-/// A program in its memory.
+/// A program in its memory: two cache levels over pages in blocks.
 #[derive(Drop)]
 pub struct Machine {
-    memory: HeldLine<PlainLines>,
+    memory: L1<L2<Pages>>,
     guest: Guest,
     budget: u64,
     beats: BeatWord,
@@ -29,46 +31,46 @@ pub struct Machine {
 }
 
 impl Model for Machine {
-    ghost use Rattle.hier_types.specs.Lines.{flatten};
     ghost use Rattle.rv_guest.specs.State.{state_of};
-    ghost use Rattle.hier_machine.specs.Held.{overlay};
+    ghost use Rattle.hier_machine.specs.Memory.{bytes_of};
     ghost use Rattle.hier_machine.specs.State.{State};
 
     ghost Value = { State };
 
     ghost view = { λ m. record {
-      span = m.memory.geometry;
-      guest = state_of m.guest (flatten (overlay m.memory.below.lines m.memory.kept m.memory.bytes));
+      memory = m.memory;
+      guest = state_of m.guest (bytes_of m.memory);
       budget = m.budget;
       beats = m.beats;
       ended = m.ended;
     } };
-
-    ghost use Rattle.hier_machine.specs.Calm.{Calm};
-
-    // The lines below refuse nothing, and have refused nothing.
-    ghost invariant = { λ m. Calm m.memory.below };
 }
 
 impl Machine {
     /// A machine that begins with the image: pc is its entry, x2 is 64 bytes below the span's end, and every other
-    /// register is 0. The break is the image's end.
+    /// register is 0. The break is the image's end. No line is kept, and the pages of the image stand in the store.
     pub fn open(alloc: Global, settings: &Settings, image: &Image) -> Result<Self, OpenFault>
         requires same { image.now.span ≡ settings.now.geometry }
         requires rules { AreWithinRules settings.now }
-        ensures { IfOk result (λ machine. machine ≡ start_state settings.now image.now.file) }
+        ensures ok { IfOk result (Starts settings.now image.now.file) }
+        ensures err { IfErr result (IsOpenFault image.now settings.now.codec settings.now.frames) }
     {
         let geometry = settings.geometry;
-        let Ok(below) = loaded(alloc, image, geometry.pages) else {
-            return Err(OpenFault::NoMemory);
-        };
         let Ok(beats) = settings.beats.clone() else {
             return Err(OpenFault::NoMemory);
         };
-        let guest = Guest::start(image.entry(), image.end(), &geometry);
+        let Ok(mut store) = Pages::new(alloc, geometry, settings.frames, settings.codec) else {
+            return Err(OpenFault::NoMemory);
+        };
+        if let Err(refusal) = place_image(&mut store, image, geometry.pages) {
+            return Err(OpenFault::NoRoom(refusal));
+        }
+        let Ok(memory) = levels_over(alloc, store, settings) else {
+            return Err(OpenFault::NoMemory);
+        };
         Ok(Machine {
-            memory: HeldLine::new(below, geometry),
-            guest,
+            memory,
+            guest: Guest::start(image.entry(), image.end(), &geometry),
             budget: settings.budget,
             beats,
             ended: false,
@@ -99,14 +101,17 @@ impl Machine {
 
     /// The guest's bytes of a page.
     pub fn view_page(&self, page: PageNo, into: &mut [u8; 4096])
-        requires { page.0 < self.now.span.pages }
+        requires { page.0 < self.now.memory.span.pages }
         ensures { into.new ≡ take 4096 (drop (4096 * page.0) self.now.guest.hart.bytes) }
     {
-        self.memory.view_page(page, into);
+        // With its span and its lines the memory tells that it has the page.
+        let _span = self.memory.span();
+        let _count = self.memory.lines();
+        view_page(&self.memory, page, into);
     }
 
     /// One beat. The hart makes one instruction; the mover and the cleaner have nothing to do yet. A beat that
-    /// answers an end ends the machine. No touch is refused by this memory, so it never answers `Space`.
+    /// answers an end ends the machine.
     pub fn beat<I: Source, O: Sink>(
         &mut self,
         beat: Beat,
@@ -116,7 +121,6 @@ impl Machine {
         requires running { self.old.ended ≡ false }
         requires room { self.old.guest.retired < 2 ^ 64 - 1 }
         ensures beats { Beats beat self.old result self.new (streams (stream (I.left input.old) (I.left input.new) (I.faults input.old) (I.faults input.new)) (stream (O.written out.old) (O.written out.new) (O.faults out.old) (O.faults out.new))) }
-        ensures space { (refusal : NoSpace) → result ≢ Some (Space refusal) }
         ensures faults { FaultsStay (streams (stream (I.left input.old) (I.left input.new) (I.faults input.old) (I.faults input.new)) (stream (O.written out.old) (O.written out.new) (O.faults out.old) (O.faults out.new))) }
     {
         match beat {
@@ -132,12 +136,12 @@ impl Machine {
         requires running { self.old.ended ≡ false }
         requires within { self.old.guest.retired ≤ self.old.budget }
         ensures runs { Runs self.old result self.new (streams (stream (I.left input.old) (I.left input.new) (I.faults input.old) (I.faults input.new)) (stream (O.written out.old) (O.written out.new) (O.faults out.old) (O.faults out.new))) }
-        ensures space { (refusal : NoSpace) → result ≢ Space refusal }
         ensures faults { FaultsStay (streams (stream (I.left input.old) (I.left input.new) (I.faults input.old) (I.faults input.new)) (stream (O.written out.old) (O.written out.new) (O.faults out.old) (O.faults out.new))) }
     {
+        let budget = self.budget;
         let length = self.beats.len();
         let mut place = 0;
-        while self.guest.retired < self.budget {
+        while self.guest.retired < budget {
             let beat = self.beats.beat_at(place);
             if let Some(end) = self.beat(beat, input, out) {
                 return end;
@@ -153,16 +157,32 @@ impl Machine {
         requires running { self.old.ended ≡ false }
         requires room { self.old.guest.retired < 2 ^ 64 - 1 }
         ensures beats { HartBeats self.old result self.new (streams (stream (I.left input.old) (I.left input.new) (I.faults input.old) (I.faults input.new)) (stream (O.written out.old) (O.written out.new) (O.faults out.old) (O.faults out.new))) }
-        ensures space { (refusal : NoSpace) → result ≢ Some (Space refusal) }
         ensures faults { FaultsStay (streams (stream (I.left input.old) (I.left input.new) (I.faults input.old) (I.faults input.new)) (stream (O.written out.old) (O.written out.new) (O.faults out.old) (O.faults out.new))) }
     {
-        match self.guest.beat(&mut self.memory, input, out) {
-            None => None,
-            Some(MachineEnd::Space(_)) => unreachable!(),
-            Some(end) => {
-                self.ended = true;
-                Some(end)
-            }
-        }
+        let end = self.guest.beat(&mut self.memory, input, out);
+        self.ended = end.is_some();
+        end
     }
+}
+
+/// Both cache levels over a store. Neither keeps a line.
+fn levels_over(alloc: Global, store: Pages, settings: &Settings) -> Result<L1<L2<Pages>>, NoMemory>
+    requires rules { AreWithinRules settings.now }
+    requires lines { length store.lines ≡ 64 * settings.now.geometry.pages }
+    ensures { IfOk result (λ memory. memory ≡ start_memory settings.now store) }
+{
+    let second = L2::new(
+        alloc,
+        store,
+        settings.codec,
+        settings.l2_sets,
+        settings.l2_ways,
+    )?;
+    L1::new(
+        alloc,
+        second,
+        settings.geometry,
+        settings.l1_sets,
+        settings.l1_ways,
+    )
 }

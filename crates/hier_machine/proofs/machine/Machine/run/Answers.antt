@@ -1,9 +1,11 @@
-use Rattle.std.proofs.Common.{◌≡◌, ◌<◌, ◌≤◌, ◌∙◌, length, slice_get, Some, refl, sym, ap, subst, arith}
+use Rattle.std.proofs.Common.{◌≡◌, ◌<◌, ◌≤◌, ◌%◌, ◌∙◌, suc, length, slice_get, Some, refl, sym, ap, subst, arith}
+use Rattle.std.proofs.Math.Nat.{zero-mod}
 use Rattle.hier_types.specs.Beats.{IsBeatWord}
 use Rattle.sys_shim.specs.Streams.{stream, streams}
 use Rattle.hier_machine.specs.contracts.machine.Machine.{the_view}
 use Rattle.hier_machine.specs.State.{State}
-use Rattle.hier_machine.proofs.RunLemmas.{RunsSoFar, runs_budget, runs_end, runs_none, runs_on}
+use Rattle.hier_machine.specs.Runs.{IsBeat}
+use Rattle.hier_machine.proofs.RunLemmas.{RunsSoFar, after_budget, before_budget, next_place, runs_budget, runs_end, runs_none, runs_on}
 use Rattle.hier_machine.proofs.WordLemmas.{some_beats, work_shrinks}
 use Rattle.hier_machine.proofs.machine.Machine.run.Goals as goal
 
@@ -14,7 +16,10 @@ loop-self-init g c =
     let word : IsBeatWord start.beats = subst IsBeatWord beats c.len-length.ensures.word in
     let len : c.len-length.result ≡ length start.beats = c.len-length.ensures.len ∙ ap length beats in
     record {
+      count = 0;
       runs = runs_none start _ (refl, refl) (record { input = omega arith; output = omega arith }) c.requires.running c.requires.within;
+      place_is = sym (zero-mod c.len-length.result);
+      budget = ap (λ (s : State). s.budget) c.self.view_is;
       inside = omega (arith, some_beats start.beats word);
       word = word;
       len = len;
@@ -25,19 +30,22 @@ returns-in-Some-clause-runs g c =
     let start = c.args.self.now in
     let now = c.loop-self.self in
     let so = c.loop-self.invariant.runs in
-    let lt : now.guest.retired < now.budget = rw (← c.self-in-loop-self.view_is) c.loop-self-test.true in
+    let lt : now.guest.retired < now.budget = before_budget c.self-in-loop-self.view_is (c.loop-self.invariant.budget ∙ sym c.loop-self.invariant.runs.stays.budget) c.loop-self-test.true in
     let first = streams (stream (g.I.Source.left c.args.input.now) (g.I.Source.left c.loop-self.input) (g.I.Source.faults c.args.input.now) (g.I.Source.faults c.loop-self.input))
     (stream (g.O.Sink.written c.args.out.now) (g.O.Sink.written c.loop-self.out) (g.O.Sink.faults c.args.out.now) (g.O.Sink.faults c.loop-self.out)) in
     let second = streams (stream (g.I.Source.left c.loop-self.input) (g.I.Source.left c.beat.new.input) (g.I.Source.faults c.loop-self.input) (g.I.Source.faults c.beat.new.input))
     (stream (g.O.Sink.written c.loop-self.out) (g.O.Sink.written c.beat.new.out) (g.O.Sink.faults c.loop-self.out) (g.O.Sink.faults c.beat.new.out)) in
-    runs_end c.beat_at-beat.result start now c.beat.new.self c.in-Some.end first second so (record { input = refl; output = refl; in_faults = refl; out_faults = refl }) lt c.in-Some.ensures.beats
+    let at : slice_get now.beats c.loop-self.place ≡ Some c.beat_at-beat.result = subst (λ (s : State). slice_get s.beats c.loop-self.place ≡ Some c.beat_at-beat.result) c.self-in-loop-self.view_is c.beat_at-beat.ensures in
+    let place : c.loop-self.place ≡ c.loop-self.invariant.count % length start.beats = c.loop-self.invariant.place_is ∙ ap (λ n. c.loop-self.invariant.count % n) c.loop-self.invariant.len in
+    let is : IsBeat start.beats c.loop-self.invariant.count c.beat_at-beat.result = ap (λ n. slice_get start.beats n) (sym place) ∙ ap (λ l. slice_get l c.loop-self.place) (sym c.loop-self.invariant.runs.stays.beats) ∙ at in
+    runs_end c.beat_at-beat.result start now c.beat.new.self c.loop-self.invariant.count c.in-Some.end first second so (record { input = refl; output = refl; in_faults = refl; out_faults = refl }) lt is c.in-Some.ensures.beats
 
 pub loop-self-smaller : goal.loop-self-smaller
 loop-self-smaller g c =
     let now = c.loop-self.self in
     let so = c.loop-self.invariant in
     let beats = so.runs.stays.beats in
-    let lt : now.guest.retired < now.budget = rw (← c.self-in-loop-self.view_is) c.loop-self-test.true in
+    let lt : now.guest.retired < now.budget = before_budget c.self-in-loop-self.view_is (c.loop-self.invariant.budget ∙ sym c.loop-self.invariant.runs.stays.budget) c.loop-self-test.true in
     let word : IsBeatWord now.beats = subst IsBeatWord (sym beats) so.word in
     let at : slice_get now.beats c.loop-self.place ≡ Some c.beat_at-beat.result = subst (λ (s : State). slice_get s.beats c.loop-self.place ≡ Some c.beat_at-beat.result) c.self-in-loop-self.view_is c.beat_at-beat.ensures in
     let second = streams (stream (g.I.Source.left c.loop-self.input) (g.I.Source.left c.beat.new.input) (g.I.Source.faults c.loop-self.input) (g.I.Source.faults c.beat.new.input))
@@ -49,13 +57,19 @@ loop-self-preserved g c =
     let start = c.args.self.now in
     let now = c.loop-self.self in
     let so = c.loop-self.invariant in
-    let lt : now.guest.retired < now.budget = rw (← c.self-in-loop-self.view_is) c.loop-self-test.true in
+    let lt : now.guest.retired < now.budget = before_budget c.self-in-loop-self.view_is (c.loop-self.invariant.budget ∙ sym c.loop-self.invariant.runs.stays.budget) c.loop-self-test.true in
     let first = streams (stream (g.I.Source.left c.args.input.now) (g.I.Source.left c.loop-self.input) (g.I.Source.faults c.args.input.now) (g.I.Source.faults c.loop-self.input))
     (stream (g.O.Sink.written c.args.out.now) (g.O.Sink.written c.loop-self.out) (g.O.Sink.faults c.args.out.now) (g.O.Sink.faults c.loop-self.out)) in
     let second = streams (stream (g.I.Source.left c.loop-self.input) (g.I.Source.left c.beat.new.input) (g.I.Source.faults c.loop-self.input) (g.I.Source.faults c.beat.new.input))
     (stream (g.O.Sink.written c.loop-self.out) (g.O.Sink.written c.beat.new.out) (g.O.Sink.faults c.loop-self.out) (g.O.Sink.faults c.beat.new.out)) in
+    let at : slice_get now.beats c.loop-self.place ≡ Some c.beat_at-beat.result = subst (λ (s : State). slice_get s.beats c.loop-self.place ≡ Some c.beat_at-beat.result) c.self-in-loop-self.view_is c.beat_at-beat.ensures in
+    let place : c.loop-self.place ≡ c.loop-self.invariant.count % length start.beats = c.loop-self.invariant.place_is ∙ ap (λ n. c.loop-self.invariant.count % n) c.loop-self.invariant.len in
+    let is : IsBeat start.beats c.loop-self.invariant.count c.beat_at-beat.result = ap (λ n. slice_get start.beats n) (sym place) ∙ ap (λ l. slice_get l c.loop-self.place) (sym c.loop-self.invariant.runs.stays.beats) ∙ at in
     record {
-      runs = runs_on c.beat_at-beat.result start now c.beat.new.self first second so.runs (record { input = refl; output = refl; in_faults = refl; out_faults = refl }) lt c.beat.ensures.faults c.in_default.ensures.beats;
+      count = suc so.count;
+      runs = runs_on c.beat_at-beat.result start now c.beat.new.self so.count first second so.runs (record { input = refl; output = refl; in_faults = refl; out_faults = refl }) lt c.beat.ensures.faults is c.in_default.ensures.beats;
+      place_is = next_place c.loop-self.place so.count c.len-length.result so.place_is;
+      budget = so.budget;
       inside = omega (arith, so.inside);
       word = so.word;
       len = so.len;
@@ -67,7 +81,7 @@ returns-clause-runs g c =
     let now = the_view c.self-2.inside in
     let out = streams (stream (g.I.Source.left c.args.input.now) (g.I.Source.left c.loop-self.input) (g.I.Source.faults c.args.input.now) (g.I.Source.faults c.loop-self.input))
     (stream (g.O.Sink.written c.args.out.now) (g.O.Sink.written c.loop-self.out) (g.O.Sink.faults c.args.out.now) (g.O.Sink.faults c.loop-self.out)) in
-    let so : RunsSoFar start now out = rw c.self-2.view_is c.loop-self.invariant.runs in
-    let used : c.loop-self.self.budget ≤ c.loop-self.self.guest.retired = rw (← c.self-in-loop-self.view_is) c.loop-self-test.false in
+    let so : RunsSoFar start now c.loop-self.invariant.count out = rw c.self-2.view_is c.loop-self.invariant.runs in
+    let used : c.loop-self.self.budget ≤ c.loop-self.self.guest.retired = after_budget c.self-in-loop-self.view_is (c.loop-self.invariant.budget ∙ sym c.loop-self.invariant.runs.stays.budget) c.loop-self-test.false in
     let over : now.budget ≤ now.guest.retired = subst (λ (s : State). s.budget ≤ s.guest.retired) (sym c.self-2.view_is) used in
-    runs_budget start now out so over
+    runs_budget start now c.loop-self.invariant.count out so over

@@ -1,4 +1,4 @@
-use Rattle.std.proofs.Common.{◌≡◌, ◌<◌, length}
+use Rattle.std.proofs.Common.{◌≡◌, ◌<◌, ◌%◌, ℕ, length}
 use Rattle.hier_types.specs.Beats.{IsBeatWord}
 use Rattle.sys_shim.specs.Streams.{stream, streams}
 use Rattle.hier_machine.proofs.RunLemmas.{RunsSoFar}
@@ -7,8 +7,11 @@ use Rattle.hier_machine.proofs.machine.Machine.run.Given as goal
 
 abbrev pub invariant-loop-self : goal.invariant-loop-self
 invariant-loop-self g l = record {
-  runs : RunsSoFar l.fn.self l.self (streams (stream (g.I.Source.left l.fn.input) (g.I.Source.left l.input) (g.I.Source.faults l.fn.input) (g.I.Source.faults l.input))
+  count : ℕ;
+  runs : RunsSoFar l.fn.self l.self count (streams (stream (g.I.Source.left l.fn.input) (g.I.Source.left l.input) (g.I.Source.faults l.fn.input) (g.I.Source.faults l.input))
       (stream (g.O.Sink.written l.fn.out) (g.O.Sink.written l.out) (g.O.Sink.faults l.fn.out) (g.O.Sink.faults l.out)));
+  place_is : l.place ≡ count % l.length;
+  budget : l.budget ≡ l.fn.self.budget;
   inside : l.place < l.length;
   word : IsBeatWord l.fn.self.beats;
   len : l.length ≡ length l.fn.self.beats;

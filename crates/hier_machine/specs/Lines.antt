@@ -1,5 +1,6 @@
--- Lines that are filled one after another.
+-- The image as lines.
 use Rattle.std.specs.Prelude.{◌≡◌, ◌≤◌, ℕ, ◌+◌, ◌-◌, ◌*◌, List, ◌++◌, replicate}
+use Rattle.hier_types.specs.Lines.{zero_line}
 use Rattle.hier_types.specs.Tabulate.{tabulate}
 use Rattle.elf_image.specs.Image.{Loaded, byte_at}
 
@@ -7,7 +8,6 @@ use Rattle.elf_image.specs.Image.{Loaded, byte_at}
 abbrev pub line_in : Loaded → ℕ → List ℕ
 line_in image line = tabulate (λ place. byte_at image.span image.file (64 * line + place)) 64
 
--- The first of so many elements are those of a table, and the others are as they were made.
-pub record IsFilled {A : Type 0} (f : ℕ → A) (made : A) (filled all : ℕ) (xs : List A) : Type 0 where
-  pub within : filled ≤ all
-  pub parts : xs ≡ tabulate f filled ++ replicate (all - filled) made
+-- the image in the pages before one, and zeros in all others
+abbrev pub lines_before : Loaded → ℕ → List (List ℕ)
+lines_before image page = tabulate (line_in image) (64 * page) ++ replicate (64 * (image.span.pages - page)) zero_line

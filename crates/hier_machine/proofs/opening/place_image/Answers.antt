@@ -1,0 +1,41 @@
+use Rattle.std.proofs.Common.{◌≡◌, ◌≤◌, ◌<◌, ◌∙◌, ◌+◌, ℕ, List, length, Err, ap, sym, subst, arith}
+use Rattle.hier_types.specs.declared.settings.Codec.{Codec}
+use Rattle.elf_image.specs.Image.{page_of}
+use Rattle.page_store.specs.Calls.{PlacesPage}
+use Rattle.page_store.specs.Crowds.{Tight}
+use Rattle.hier_machine.specs.Lines.{lines_before}
+use Rattle.hier_machine.specs.Placed.{PlacedUpTo}
+use Rattle.hier_machine.proofs.PlacedLemmas.{PlacedFacts, placed_facts}
+use Rattle.hier_machine.proofs.opening.place_image.Goals as goal
+
+pub place_page-requires : goal.place_page-requires
+place_page-requires c =
+    let image = c.args.image.now in
+    let n = c.loop-number.number in
+    let within : n ≤ image.span.pages = omega (arith, c.requires.same, c.loop-number-test.true) in
+    let inside : n < image.span.pages = omega (arith, c.requires.same, c.loop-number-test.true) in
+    (placed_facts image c.args.store.now.codec (length c.args.store.now.used) n c.loop-number.store within c.loop-number.invariant.placed).zeros n (omega arith) inside
+
+pub returns-in-Err-clause-err : goal.returns-in-Err-clause-err
+returns-in-Err-clause-err c =
+    let image = c.args.image.now in
+    let codec = c.args.store.now.codec in
+    let frames = length c.args.store.now.used in
+    let n = c.loop-number.number in
+    let mid = c.loop-number.store in
+    let after = c.place_page.new.store in
+    let refusal = c.in-Err.refusal in
+    let within : n ≤ image.span.pages = omega (arith, c.requires.same, c.loop-number-test.true) in
+    let facts = placed_facts image codec frames n mid within c.loop-number.invariant.placed in
+    let refused : PlacesPage mid n (page_of image.span image.file n) (Err refusal) after = subst (λ bytes. PlacesPage mid n bytes (Err refusal) after) c.page.ensures c.in-Err.ensures.err in
+    let page = sym refused.page_is in
+    let tight : Tight codec frames (lines_before image n) n refusal.order =
+    subst (λ (k : Codec). Tight k frames (lines_before image n) n refusal.order) facts.codec_is
+    (subst (λ f. Tight mid.codec f (lines_before image n) n refusal.order) facts.frames_are (subst (λ l. Tight mid.codec (length mid.used) l n refusal.order) facts.lines refused.tight)) in
+    record {
+      mid = mid;
+      placed = subst (λ p. PlacedUpTo image codec frames p mid) page c.loop-number.invariant.placed;
+      after = after;
+      refused = subst (λ p. PlacesPage mid p (page_of image.span image.file p) (Err refusal) after) page refused;
+      tight = subst (λ p. Tight codec frames (lines_before image p) p refusal.order) page tight;
+    }

@@ -1,0 +1,37 @@
+-- The image, placed into a memory of pages.
+use Rattle.std.specs.Prelude.{◌≡◌, ◌≢◌, ◌⊎◌, ℕ, zero, suc, List, Ok, Err, replicate}
+use Rattle.hier_types.specs.declared.faults.NoSpace.{NoSpace}
+use Rattle.hier_types.specs.declared.settings.Codec.{Codec}
+use Rattle.elf_image.specs.Image.{Loaded, page_of}
+use Rattle.page_store.specs.Calls.{PlacesPage}
+use Rattle.page_store.specs.Crowds.{Tight}
+use Rattle.page_store.specs.Store.{Store, fresh}
+use Rattle.hier_machine.specs.declared.ends.OpenFault.{OpenFault}
+use Rattle.hier_machine.specs.declared.ends.OpenFault.TheVariants.{NoMemory, NoRoom}
+use Rattle.hier_machine.specs.Lines.{lines_before}
+
+abbrev pub zero_page : List ℕ
+zero_page = replicate 4096 0
+
+-- a page of these bytes is placed, where it is not zero
+abbrev pub PlacesBytes : ℕ → List ℕ → Store → Store → Type 0
+PlacesBytes page bytes s t = ((bytes ≡ zero_page) × (t ≡ s)) ⊎ ((bytes ≢ zero_page) × PlacesPage s page bytes (Ok tt) t)
+
+-- the pages before one were placed, one after another, in a store that was fresh
+abbrev pub PlacedUpTo : Loaded → Codec → ℕ → ℕ → Store → Type 0
+PlacedUpTo image codec frames zero s = s ≡ fresh codec image.span.pages frames
+PlacedUpTo image codec frames (suc page) s = (mid : Store) × PlacedUpTo image codec frames page mid × PlacesBytes page (page_of image.span image.file page) mid s
+
+-- A page found no room when those before it were placed. The image in the pages before it, and zeros elsewhere, are tight
+-- for it and the order of its plan.
+pub record NoRoomFor (image : Loaded) (codec : Codec) (frames : ℕ) (refusal : NoSpace) : Type 0 where
+  pub mid : Store
+  pub placed : PlacedUpTo image codec frames refusal.page.0 mid
+  pub after : Store
+  pub refused : PlacesPage mid refusal.page.0 (page_of image.span image.file refusal.page.0) (Err refusal) after
+  pub tight : Tight codec frames (lines_before image refusal.page.0) refusal.page.0 refusal.order
+
+-- why no machine was opened; want of memory has no further cause
+abbrev pub IsOpenFault : Loaded → Codec → ℕ → OpenFault → Type 0
+IsOpenFault image codec frames NoMemory = Unit {0}
+IsOpenFault image codec frames (NoRoom refusal) = NoRoomFor image codec frames refusal
