@@ -52,10 +52,6 @@ touched_none sets line inside none = ap (with_set sets line) (same (kept_of sets
     same None is = refl
     same (Some e) is = absurd (let k = is in cc)
 
-pub not_kept : (kept : Option Entry) → is_some kept ≡ false → kept ≡ None
-not_kept None is = refl
-not_kept (Some e) is = absurd (let k = is in cc)
-
 touched_front : (es : List Entry) (line : ℕ) (e : Entry) → entry_of es line ≡ Some e → slice_get (touched es line) 0 ≡ Some e
 touched_front es line e is = rw is refl
 
@@ -141,11 +137,6 @@ cleaned_ready k =
     nothing None is = ap if_dirty is
     nothing (Some e) is = ap if_dirty is ∙ ap (λ b. if b then Some e else None) (last_of-clean_last k.lines e is)
 
--- a miss in a set that has nothing to write
-pub miss_clean : (sets : List Kept) (counts : L1Counts) (line : ℕ) (result : Answer) (new : List Kept) (now : L1Counts) (calls : List Call)
-    → dirty_victim (set_of sets line) ≡ None → Steps Brings sets counts line result new now calls → Steps Misses sets counts line result new now calls
-miss_clean sets counts line result new now calls none s = record { change = record { after = s.change.after; step = rw none s.change.step; only = s.change.only }; counts_are = s.counts_are }
-
 -- the write of the victim was refused
 pub miss_refused : (sets : List Kept) (counts : L1Counts) (line : ℕ) (e : Entry) (n : NoSpace) → line % length sets < length sets
     → dirty_victim (set_of sets line) ≡ Some e → Steps Misses sets counts line (Err n) sets counts (Write e.line e.bytes (Err n) ∷ [])
@@ -177,11 +168,6 @@ absent_cleaned sets line inside none = rw (length-set, set_at-same sets (line % 
 
 pub ready_cleaned : (sets : List Kept) (line : ℕ) → line % length sets < length sets → dirty_victim (set_of (with_set sets line (clean_last (set_of sets line).lines)) line) ≡ None
 ready_cleaned sets line inside = rw (length-set, set_at-same sets (line % length sets) (with_lines (set_of sets line) (clean_last (set_of sets line).lines)) inside) (cleaned_ready (set_of sets line))
-
--- what a touch of a line that is not kept does
-pub touch_miss : (sets : List Kept) (counts : L1Counts) (line : ℕ) (result : Answer) (new : List Kept) (now : L1Counts) (calls : List Call)
-    → kept_of sets line ≡ None → Steps Misses sets counts line result new now calls → Steps TouchesSet sets counts line result new now calls
-touch_miss sets counts line result new now calls none s = record { change = record { after = s.change.after; step = rw none s.change.step; only = s.change.only }; counts_are = s.counts_are }
 
 -- the whole level after a victim was written below, with nothing held
 pub clean_level : {lines : List (List ℕ)} {sets : List Kept} {held : Option ℕ} {span : Span} (level : IsLevel lines sets held span) (line : ℕ) (e : Entry) → dirty_victim (set_of sets line) ≡ Some e → held ≡ None

@@ -74,12 +74,6 @@ last_none [] is = refl
 last_none (e ∷ []) is = absurd (let k = is in cc)
 last_none (e ∷ f ∷ es) is = absurd (let k : f ∷ es ≡ [] = last_none (f ∷ es) is in cc)
 
-pub space_empty : (size : List ℕ → ℕ) (tags : ℕ) (bytes : List ℕ) (es : List Entry) → segments size bytes ≤ 8 → 2 ≤ tags → last_of es ≡ None → has_space size tags bytes es ≡ true
-space_empty size tags bytes es most two none = rw (last_none es none) (alone size tags bytes most two)
-  where
-    alone : (size : List ℕ → ℕ) (tags : ℕ) (bytes : List ℕ) → segments size bytes ≤ 8 → 2 ≤ tags → has_space size tags bytes [] ≡ true
-    alone size tags bytes most two = grind (arith, nat_tests)
-
 pub if_some : (found : Option Entry) (P : Type 0) → (found ≡ None → ⊥) → IfNone found P
 if_some None P some = absurd (some refl)
 if_some (Some e) P some = tt

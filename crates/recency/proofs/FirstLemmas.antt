@@ -14,10 +14,6 @@ pub first_kept : (es : List Entry) (e : Entry) (line : ℕ) → slice_get es 0 �
 first_kept [] e line is at = absurd (let h = is in cc)
 first_kept (f ∷ es) e line is at = let same : f ≡ e = cc in at_front f es line (ap (λ z. z.line) same ∙ at) ∙ ap Some same
 
-pub first_some : (es : List Entry) (e : Entry) → slice_get es 0 ≡ Some e → 0 < length es
-first_some [] e is = absurd (let h = is in cc)
-first_some (f ∷ es) e is = omega arith
-
 pub first_shown : (lines : List (List ℕ)) (sets : List Kept) (line : ℕ) (e : Entry) → line < length lines
     → slice_get (set_of sets line).lines 0 ≡ Some e → e.line ≡ line → slice_get (overlay lines sets) line ≡ Some e.bytes
 first_shown lines sets line e inside is at =

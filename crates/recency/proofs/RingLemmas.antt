@@ -232,37 +232,8 @@ pub last_none : (ss : List ℕ) (w : ℕ) → AllBelow ss w → last_or w ss ≡
 last_none [] w b e = refl
 last_none (y ∷ ss) w b e = let lt = last_below y ss w b.0 b.1 in absurd (omega arith)
 
--- a ring with no slot
-pub ring_empty : (next prev : List ℕ) (w : ℕ) → LeadsToItself next w → LeadsToItself prev w → IsRing next prev w []
-ring_empty next prev w n p = record {
-  next_len = n.len;
-  prev_len = p.len;
-  forth = n.each w (omega arith);
-  back = p.each w (omega arith);
-  distinct = tt;
-  below = tt;
-  short = omega arith;
-  alone = λ s lt h. n.each s (omega arith);
-}
-
-first_of-or : (w : ℕ) (ss : List ℕ) → first_or ss w ≢ w → slice_get ss 0 ≡ Some (first_or ss w)
-first_of-or w [] ne = absurd (ne refl)
-first_of-or w (y ∷ ss) ne = refl
-
-first_none : (w : ℕ) (ss : List ℕ) → AllBelow ss w → first_or ss w ≡ w → slice_get ss 0 ≡ None
-first_none w [] b e = refl
-first_none w (y ∷ ss) b e = let lt = b.0 in absurd (omega arith)
-
 -- what the links tell of the slots
 module _ {next prev : List ℕ} {w head count : ℕ} (links : IsLinked next prev w head count) where
-  pub head_some : head ≢ w → slice_get (slots_of next w) 0 ≡ Some head
-  head_some ne =
-      let is : head ≡ first_or (slots_of next w) w = links.first_is ∙ first_is next w (slots_of next w) w links.ring.forth in
-      first_of-or w (slots_of next w) (λ e. ne (is ∙ e)) ∙ ap Some (sym is)
-
-  pub head_none : head ≡ w → slice_get (slots_of next w) 0 ≡ None
-  head_none e = first_none w (slots_of next w) links.ring.below (sym (first_is next w (slots_of next w) w links.ring.forth) ∙ sym links.first_is ∙ e)
-
   pub tail_some : get_or prev w 0 ≢ w → last_of (slots_of next w) ≡ Some (get_or prev w 0)
   tail_some ne =
       let is = last_is next prev w (slots_of next w) links.ring in

@@ -12,15 +12,6 @@ use Rattle.recency.specs.Slots.{tag_at, entry_at, entries_of, IsTagged, IsStored
 use Rattle.recency.proofs.UseLemmas.{by_eq, has_front, has_past, not_front, not_past, not_both, has_apart, has_below, has-removed, has-removed_other, distinct-removed, below-removed, removed_none}
 use Rattle.recency.proofs.SlotLemmas.{entries_same, slot_entry, slot_none, none_slot, last_of-map, but_last-map, last_has, last_none_empty, removed_last, more_has}
 
-get_or-any : {A : Type 0} (xs : List A) (i : ℕ) (d e : A) → i < length xs → get_or xs i d ≡ get_or xs i e
-get_or-any [] i d e lt = absurd (omega arith)
-get_or-any (x ∷ xs) zero d e lt = refl
-get_or-any (x ∷ xs) (suc i) d e lt = get_or-any xs i d e (omega arith)
-
--- a tag that was read
-pub tag_read : (tags : List Tag) (s : ℕ) (t : Tag) → s < length tags → t ≡ get_or tags s t → tag_at tags s ≡ t
-tag_read tags s t lt is = get_or-any tags s (record { line = 0; dirty = false }) t lt ∙ sym is
-
 -- the first slot is in use
 pub first_has : (ss : List ℕ) (s : ℕ) → slice_get ss 0 ≡ Some s → has ss s ≡ true
 first_has [] s is = absurd (let k = is in cc)
@@ -151,31 +142,6 @@ module _ {ways : ℕ} {order : Used} {tags : List Tag} {bytes : List (List ℕ)}
     where
       was : (s : ℕ) → has order.slots s ≡ true → (x : ℕ) → has (s ∷ removed order.slots s) x ≡ true → has order.slots x ≡ true
       was s h x k = by_eq x s (λ e. ap (has order.slots) e ∙ h) (λ ne. has_used order.slots s x k ne)
-
-  -- another mark on a slot's line
-  pub stored_marked : (s : ℕ) (dirty : Bool) → IsStored ways order (set tags s (record { line = (tag_at tags s).line; dirty = dirty })) bytes
-  stored_marked s dirty = record {
-    some = stored.some;
-    ways_are = stored.ways_are;
-    tagged = record {
-      len = rw length-set stored.tagged.len;
-      distinct = stored.tagged.distinct;
-      below = stored.tagged.below;
-      unique = λ x y hx hy same. stored.tagged.unique x y hx hy (sym (marked x hx) ∙ same ∙ marked y hy);
-    };
-    full = stored.full;
-  }
-    where
-      marked : (x : ℕ) → has order.slots x ≡ true → (tag_at (set tags s (record { line = (tag_at tags s).line; dirty = dirty })) x).line ≡ (tag_at tags x).line
-      marked x h = by_eq x s
-          (λ e. ap (λ z. (tag_at (set tags s (record { line = (tag_at tags s).line; dirty = dirty })) z).line) e
-          ∙ ap (λ (t : Tag). t.line) (get_or-set_same tags s (record { line = (tag_at tags s).line; dirty = dirty }) (record { line = 0; dirty = false }) (subst (λ z. z < length tags) e (tag_within x h)))
-          ∙ sym (ap (λ z. (tag_at tags z).line) e))
-          (λ ne. ap (λ (t : Tag). t.line) (get_or-set_other tags s x (record { line = (tag_at tags s).line; dirty = dirty }) (record { line = 0; dirty = false }) ne))
-
-  -- other bytes in a slot
-  pub stored_bytes : (s : ℕ) (b : List ℕ) → IsStored ways order tags (set bytes s b)
-  stored_bytes s b = record { some = stored.some; ways_are = stored.ways_are; tagged = stored.tagged; full = rw length-set stored.full }
 
   pub cleaned_slot : (s line : ℕ) → has order.slots s ≡ true → (tag_at tags s).line ≡ line → entries_of (set tags s (clean_tag tags s)) bytes order.slots ≡ clean_in (entries_of tags bytes order.slots) line
   cleaned_slot s line h at = clean_at_slot tags bytes order.slots s line stored.tagged.distinct h (tag_within s h) at (only_slot s line h at)
