@@ -1,9 +1,8 @@
 -- Slots that are taken out of a ring, and put into it.
-use Rattle.std.proofs.Common.{◌≡◌, ◌≢◌, ◌<◌, ◌≤◌, ◌+◌, ◌==◌, ℕ, zero, suc, Bool, true, false, not, List, [], ◌∷◌, Option, Some, None, length, length-set, set, get_or, refl, sym, ap, ◌∙◌, subst, arith, get_or-set_same, get_or-set_other}
+use Rattle.std.proofs.Common.{◌≡◌, ◌≢◌, ◌<◌, ◌≤◌, ◌+◌, ◌==◌, ℕ, zero, suc, true, false, not, List, [], ◌∷◌, Some, None, length, length-set, set, get_or, refl, sym, ap, ◌∙◌, subst, arith, get_or-set_same, get_or-set_other}
 use Rattle.std.proofs.lemmas.Bool.{eq-eqb, ne_eqb}
-use Rattle.std.specs.List.{slice_get}
 use Rattle.recency.specs.Uses.{has, removed, last_of, more_recent, IsDistinct, AllBelow}
-use Rattle.recency.specs.Ring.{Links, Back, walk, slots_of, IsRing, IsLinked, LeadsToItself}
+use Rattle.recency.specs.Ring.{Links, Back, walk, slots_of, IsRing, IsLinked}
 use Rattle.recency.proofs.UseLemmas.{first_or, after, before, last_or, by_eq, has_front, has_past, not_front, not_past, not_both, has_apart, before_has, after_has, has-removed_other, has-removed, distinct-removed, below-removed, length-removed, has_below, below_absent, last_of-or, more_none, more_before, more_first}
 
 -- links that agree on the slots

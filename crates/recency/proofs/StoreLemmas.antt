@@ -1,16 +1,16 @@
 -- A set's lines, by what its slots keep.
-use Rattle.std.proofs.Common.{◌≡◌, ◌≢◌, ◌<◌, ◌≤◌, ◌+◌, ◌==◌, ℕ, zero, suc, Bool, true, false, List, [], ◌∷◌, ◌++◌, Option, Some, None, map, length, length-set, set, get_or, refl, sym, ap, ◌∙◌, subst, arith, if◌then◌else◌, nat_lt, get_or-set_same, get_or-set_other}
+use Rattle.std.proofs.Common.{◌≡◌, ◌≢◌, ◌<◌, ◌≤◌, ℕ, Bool, true, false, List, [], ◌∷◌, Some, None, length, length-set, set, get_or, refl, sym, ap, ◌∙◌, arith, if◌then◌else◌, nat_lt, get_or-set_same, get_or-set_other}
 use Rattle.std.specs.List.{slice_get}
 use Rattle.std.specs.Option.{option_map, is_some}
 use Rattle.std.proofs.lemmas.Bool.{eq-eqb, ne_eqb, le-ltb}
 use Rattle.std.proofs.lemmas.List.{length-map}
 use Rattle.recency.specs.declared.entry.Entry.{Entry}
 use Rattle.recency.specs.declared.entry.Tag.{Tag}
-use Rattle.recency.specs.Uses.{Used, has, removed, last_of, but_last, more_recent, IsDistinct, AllBelow}
-use Rattle.recency.specs.Kept.{Kept, entry_of, without, touched, clean_entry, dirty_entry, cleaned, clean_last, clean_in, last_dirty, put_in, has_room, dirty_victim, if_dirty, overwritten, poked}
-use Rattle.recency.specs.Slots.{tag_at, entry_at, entries_of, IsTagged, IsStored, IsSlotOf}
-use Rattle.recency.proofs.UseLemmas.{by_eq, has_front, has_past, not_front, not_past, not_both, has_apart, has_below, has-removed, has-removed_other, distinct-removed, below-removed, removed_none}
-use Rattle.recency.proofs.SlotLemmas.{entries_same, slot_entry, slot_none, none_slot, last_of-map, but_last-map, last_has, last_none_empty, removed_last, more_has}
+use Rattle.recency.specs.Uses.{Used, has, removed, last_of, but_last, more_recent, IsDistinct}
+use Rattle.recency.specs.Kept.{entry_of, without, touched, dirty_entry, cleaned, clean_last, clean_in, put_in, dirty_victim, if_dirty, overwritten, poked}
+use Rattle.recency.specs.Slots.{tag_at, entry_at, entries_of, IsStored, IsSlotOf}
+use Rattle.recency.proofs.UseLemmas.{by_eq, has_front, has_past, not_both, has_apart, has_below, has-removed, has-removed_other, distinct-removed, below-removed}
+use Rattle.recency.proofs.SlotLemmas.{entries_same, slot_entry, slot_none, none_slot, last_of-map, but_last-map, last_has, last_none_empty, removed_last}
 
 -- the first slot is in use
 pub first_has : (ss : List ℕ) (s : ℕ) → slice_get ss 0 ≡ Some s → has ss s ≡ true
@@ -238,20 +238,20 @@ last_but_last (y ∷ z ∷ w ∷ ss) s d is =
 module _ {ways : ℕ} {order : Used} {tags : List Tag} {bytes : List (List ℕ)} (stored : IsStored ways order tags bytes) where
   pub stored_dropped : (s : ℕ) → IsStored ways (record { ways = order.ways; slots = removed order.slots s }) tags bytes
   stored_dropped s = record {
-      some = stored.some;
-      ways_are = stored.ways_are;
-      tagged = record {
-        len = stored.tagged.len;
-        distinct = distinct-removed order.slots s stored.tagged.distinct;
-        below = below-removed order.slots s order.ways stored.tagged.below;
-        unique = λ x y hx hy same. stored.tagged.unique x y (has_dropped order.slots s x stored.tagged.distinct hx) (has_dropped order.slots s y stored.tagged.distinct hy) same;
-      };
-      full = stored.full;
-    }
+    some = stored.some;
+    ways_are = stored.ways_are;
+    tagged = record {
+      len = stored.tagged.len;
+      distinct = distinct-removed order.slots s stored.tagged.distinct;
+      below = below-removed order.slots s order.ways stored.tagged.below;
+      unique = λ x y hx hy same. stored.tagged.unique x y (has_dropped order.slots s x stored.tagged.distinct hx) (has_dropped order.slots s y stored.tagged.distinct hy) same;
+    };
+    full = stored.full;
+  }
 
   pub none_left : (s line : ℕ) → has order.slots s ≡ true → (tag_at tags s).line ≡ line → entry_of (entries_of tags bytes (removed order.slots s)) line ≡ None
   none_left s line h at = slot_none tags bytes (removed order.slots s) line (λ x k is.
-    not_both (has (removed order.slots s) s) (ap (has (removed order.slots s)) (sym (only_slot stored s line h at x (has_dropped order.slots s x stored.tagged.distinct k) is)) ∙ k) (has-removed order.slots s stored.tagged.distinct))
+      not_both (has (removed order.slots s) s) (ap (has (removed order.slots s)) (sym (only_slot stored s line h at x (has_dropped order.slots s x stored.tagged.distinct k) is)) ∙ k) (has-removed order.slots s stored.tagged.distinct))
 
   pub found_without : (s line : ℕ) → has order.slots s ≡ true → (tag_at tags s).line ≡ line → entries_of tags bytes (removed order.slots s) ≡ without (entries_of tags bytes order.slots) line
   found_without s line h at = sym (slot_entry tags bytes order.slots s line stored.tagged.distinct h at (only_slot stored s line h at)).1
@@ -262,18 +262,18 @@ module _ {ways : ℕ} {order : Used} {tags : List Tag} {bytes : List (List ℕ)}
   pub oldest_none : (line : ℕ) → last_of order.slots ≡ None → last_of (without (entries_of tags bytes order.slots) line) ≡ None
   oldest_none line is = empty order.slots is
     where
-    empty : (ss : List ℕ) → last_of ss ≡ None → last_of (without (entries_of tags bytes ss) line) ≡ None
-    empty [] is = refl
-    empty (y ∷ ss) is = let n : length (y ∷ ss) ≡ 0 = last_none_empty (y ∷ ss) is in absurd (omega arith)
+      empty : (ss : List ℕ) → last_of ss ≡ None → last_of (without (entries_of tags bytes ss) line) ≡ None
+      empty [] is = refl
+      empty (y ∷ ss) is = let n : length (y ∷ ss) ≡ 0 = last_none_empty (y ∷ ss) is in absurd (omega arith)
 
   pub oldest_is_last : (s line : ℕ) → last_of order.slots ≡ Some s → (tag_at tags s).line ≢ line → last_of (without (entries_of tags bytes order.slots) line) ≡ Some (entry_at tags bytes s)
   oldest_is_last s line is ne =
-    last_without (entries_of tags bytes order.slots) (entry_at tags bytes s) line (last_of-map (entry_at tags bytes) order.slots ∙ ap (option_map (entry_at tags bytes)) is) ne
+      last_without (entries_of tags bytes order.slots) (entry_at tags bytes s) line (last_of-map (entry_at tags bytes) order.slots ∙ ap (option_map (entry_at tags bytes)) is) ne
 
   pub oldest_is_next : (s line : ℕ) → last_of order.slots ≡ Some s → (tag_at tags s).line ≡ line → last_of (without (entries_of tags bytes order.slots) line) ≡ option_map (entry_at tags bytes) (more_recent order.slots s)
   oldest_is_next s line is at =
-    ap last_of (sym (found_without s line (last_has order.slots s is) at) ∙ ap (entries_of tags bytes) (removed_last order.slots s stored.tagged.distinct is))
-    ∙ last_of-map (entry_at tags bytes) (but_last order.slots) ∙ ap (option_map (entry_at tags bytes)) (last_but_last order.slots s stored.tagged.distinct is)
+      ap last_of (sym (found_without s line (last_has order.slots s is) at) ∙ ap (entries_of tags bytes) (removed_last order.slots s stored.tagged.distinct is))
+      ∙ last_of-map (entry_at tags bytes) (but_last order.slots) ∙ ap (option_map (entry_at tags bytes)) (last_but_last order.slots s stored.tagged.distinct is)
 
 -- a line is put into a slot
 module _ {ways : ℕ} {order : Used} {tags : List Tag} {bytes : List (List ℕ)} (stored : IsStored ways order tags bytes) (s line : ℕ) (b : List ℕ) (dirty : Bool) (inside : s < ways) where
