@@ -1,5 +1,5 @@
 -- The steps of a touch, over all sets.
-use Rattle.std.proofs.Common.{◌≡◌, ◌≢◌, ◌<◌, ◌≤◌, ◌*◌, ◌%◌, ℕ, Bool, true, false, List, [], ◌∷◌, Option, Some, None, Result, Ok, Err, length, length-set, set, get_or, refl, sym, ap, ◌∙◌, subst, arith, nat_lt, eqb, if◌then◌else◌}
+use Rattle.std.proofs.Common.{◌≡◌, ◌<◌, ◌%◌, ℕ, true, false, List, [], ◌∷◌, Option, Some, None, Ok, Err, length, length-set, set, refl, sym, ap, ◌∙◌, subst, nat_lt, eqb, if◌then◌else◌}
 use Rattle.std.specs.List.{slice_get}
 use Rattle.std.specs.Option.{is_some, IfSome, option_eq}
 use Rattle.std.proofs.lemmas.Bool.{eq-eqb, eqb-true}
@@ -7,20 +7,19 @@ use Rattle.hier_types.specs.declared.cache_counts.L1Counts.{L1Counts}
 use Rattle.hier_types.specs.declared.faults.NoSpace.{NoSpace}
 use Rattle.hier_types.specs.Calls.{Answer, Call, Read, Write}
 use Rattle.hier_types.specs.Causes.{raised}
-use Rattle.hier_types.specs.Lines.{AreLines}
 use Rattle.hier_types.proofs.LineLemmas.{lines-set, line_of_lines}
 use Rattle.hier_types.specs.Span.{Span}
 use Rattle.recency.specs.declared.entry.Entry.{Entry}
 use Rattle.recency.specs.Uses.{last_of}
 use Rattle.recency.specs.Kept.{Kept, with_lines, has_room, entry_of, touched, touched_by, clean_last, put_in, dirty_victim, if_dirty, clean_entry}
-use Rattle.recency.specs.Levels.{set_at, set_of, with_set, kept_of, overlay, IsGood, IsGoodEntry, IsSound, IsFirst}
-use Rattle.recency.specs.Steps.{Changes, with_clean}
+use Rattle.recency.specs.Levels.{set_at, set_of, with_set, kept_of, overlay, IsGoodEntry, IsSound, IsFirst}
+use Rattle.recency.specs.Steps.{with_clean}
 use Rattle.recency.proofs.FlushLemmas.{back_sound, clean_keeps_first}
 use Rattle.recency.proofs.ListLemmas.{slice_get-set_other, set-set}
 use Rattle.recency.proofs.EntryLemmas.{at_front, entry_of-is, good_entry, last_entry, good_clean_last, good_elsewhere, entry_of-clean_none, last_of-clean_last}
-use Rattle.recency.proofs.LevelLemmas.{set_at-same, sound_step, overlay_step, kept_some, touch_sound, touch_same, shown_clean_last, shown_put_in, good_put_in, room_cases, unchanged, in_range}
+use Rattle.recency.proofs.LevelLemmas.{set_at-same, sound_step, overlay_step, kept_some, touch_sound, shown_clean_last, shown_put_in, good_put_in, room_cases, unchanged, in_range}
 use Rattle.l1_cache.specs.FirstLevel.{IsLevel}
-use Rattle.l1_cache.specs.Touches.{Brings, Misses, TouchesSet, Steps, counted}
+use Rattle.l1_cache.specs.Touches.{Brings, Misses, TouchesSet, Steps}
 
 -- the most recent line is touched again
 pub touched_first : (sets : List Kept) (line : ℕ) → line % length sets < length sets → IsFirst sets line → sets ≡ with_set sets line (touched (set_of sets line).lines line)
