@@ -1,11 +1,11 @@
 -- Lines leave a set, and one is put in front.
-use Rattle.std.proofs.Common.{◌≡◌, ◌≢◌, ◌<◌, ◌≤◌, ◌+◌, ◌%◌, ◌==◌, ℕ, zero, suc, Bool, true, false, List, [], ◌∷◌, ◌++◌, Option, Some, None, Result, Ok, Err, length, length-set, set, refl, sym, ap, ◌∙◌, subst, arith, if◌then◌else◌}
+use Rattle.std.proofs.Common.{◌≡◌, ◌≢◌, ◌<◌, ◌%◌, ℕ, true, false, List, [], ◌∷◌, ◌++◌, Option, Some, None, Result, Ok, Err, length, length-set, set, refl, sym, ap, ◌∙◌, subst, arith, if◌then◌else◌}
 use Rattle.std.specs.List.{slice_get}
 use Rattle.std.specs.Option.{option_map}
-use Rattle.std.specs.Prelude.{MatchResult, MatchBool}
+use Rattle.std.specs.Prelude.{MatchResult}
 use Rattle.std.proofs.lemmas.Bool.{ne_eqb, eq-eqb}
 use Rattle.hier_types.specs.declared.faults.NoSpace.{NoSpace}
-use Rattle.hier_types.specs.Calls.{Answer, Call, Read, Write, Made, Makes}
+use Rattle.hier_types.specs.Calls.{Answer, Call, Write, Made, Makes}
 use Rattle.hier_types.proofs.LineLemmas.{lines-set}
 use Rattle.recency.specs.declared.entry.Entry.{Entry}
 use Rattle.recency.specs.Uses.{last_of}
@@ -17,7 +17,7 @@ use Rattle.recency.proofs.UseLemmas.{by_eq}
 use Rattle.recency.proofs.EntryLemmas.{at_front, past_front, good_entry, good_elsewhere, good_without, gone, last_entry, entry_of-without_other}
 use Rattle.recency.proofs.LevelLemmas.{shown, shown_kept, set_at-same, set_at-other, sound_step, overlay_step, room_cases, unchanged, slice_get-overlay, length-overlay, in_range}
 use Rattle.l2_cache.specs.Room.{has_space, leaver}
-use Rattle.l2_cache.specs.Turns.{Leave, written, Stays, MakesRoom, PutsInFront, in_front, PutsOut}
+use Rattle.l2_cache.specs.Turns.{written, Stays, MakesRoom, in_front, PutsOut}
 
 -- a line that is not kept is not kept after another leaves
 pub without_none : (es : List Entry) (line x : ℕ) → entry_of es x ≡ None → entry_of (without es line) x ≡ None

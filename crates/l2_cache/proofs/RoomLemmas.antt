@@ -1,6 +1,5 @@
 -- The room of a set, after each of its steps.
-use Rattle.std.proofs.Common.{◌≡◌, ◌≢◌, ◌≤◌, ◌<◌, ◌+◌, ◌-◌, ◌*◌, ◌/◌, ◌%◌, ◌==◌, ℕ, suc, Bool, true, false, List, [], ◌∷◌, Option, Some, None, length, length-set, set, get_or, replicate, refl, sym, ap, ◌∙◌, subst, arith, if◌then◌else◌, get_or-set_same, get_or-set_other, nat_lt, nat_le, ◌&&◌}
-use Rattle.std.specs.List.{slice_get}
+use Rattle.std.proofs.Common.{◌≡◌, ◌≤◌, ◌<◌, ◌+◌, ◌-◌, ◌*◌, ◌%◌, ◌==◌, ℕ, suc, true, false, List, [], ◌∷◌, Option, Some, None, length, length-set, set, get_or, refl, sym, ap, ◌∙◌, subst, arith, if◌then◌else◌, get_or-set_same, get_or-set_other}
 use Rattle.std.specs.Option.{IfNone}
 use Rattle.std.proofs.lemmas.Bool.Decides.{nat_tests}
 use Rattle.std.proofs.lemmas.List.{set-get_or}
@@ -12,7 +11,7 @@ use Rattle.recency.specs.Kept.{Kept, with_lines, entry_of, without, touched, tou
 use Rattle.recency.specs.Levels.{set_at, set_of, with_set, kept_of}
 use Rattle.recency.proofs.UseLemmas.{by_eq}
 use Rattle.recency.proofs.LevelLemmas.{set_at-same, set_at-other}
-use Rattle.l2_cache.specs.Room.{segments, segments_sum, has_space, leaver}
+use Rattle.l2_cache.specs.Room.{segments, segments_sum, has_space}
 use Rattle.l2_cache.specs.SecondLevel.{IsMeasured}
 
 module _ (size : List ℕ → ℕ) where

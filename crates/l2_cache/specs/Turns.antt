@@ -1,5 +1,5 @@
 -- What reads, writes and turns of the cleaner do to the sets and the counts, with the calls that they make below.
-use Rattle.std.specs.Prelude.{◌≡◌, ◌+◌, ◌==◌, ℕ, Bool, true, List, [], ◌∷◌, ◌++◌, Option, Some, None, Result, Ok, Err, length, if◌then◌else◌, MatchOption, MatchResult, MatchBool}
+use Rattle.std.specs.Prelude.{◌≡◌, ◌+◌, ◌==◌, ℕ, Bool, true, List, [], ◌∷◌, ◌++◌, Some, None, Result, Ok, Err, if◌then◌else◌, MatchOption, MatchResult, MatchBool}
 use Rattle.hier_types.specs.declared.cache_counts.L2Counts.{L2Counts}
 use Rattle.hier_types.specs.declared.faults.NoSpace.{NoSpace}
 use Rattle.hier_types.specs.Calls.{Answer, Call, Read, Write}

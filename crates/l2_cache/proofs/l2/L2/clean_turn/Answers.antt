@@ -1,6 +1,6 @@
-use Rattle.std.proofs.Common.{◌≡◌, Some, None, Ok, Err, refl, sym, ap, subst, ◌∙◌}
+use Rattle.std.proofs.Common.{◌≡◌, Some, Ok, Err, refl, sym, ap, subst, ◌∙◌}
 use Rattle.hier_types.specs.Calls.{Makes}
-use Rattle.hier_types.proofs.CallLemmas.{Makes-none, Makes-write}
+use Rattle.hier_types.proofs.CallLemmas.{Makes-write}
 use Rattle.recency.specs.Kept.{last_dirty}
 use Rattle.recency.specs.Levels.{set_at}
 use Rattle.recency.proofs.FlushLemmas.{turn_kept}

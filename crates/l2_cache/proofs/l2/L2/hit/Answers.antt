@@ -1,6 +1,4 @@
-use Rattle.std.proofs.Common.{◌≡◌, ◌∙◌, Some, true, false, sym, ap, length-set}
-use Rattle.std.specs.Option.{is_some}
-use Rattle.recency.specs.Levels.{kept_of}
+use Rattle.std.proofs.Common.{length-set}
 use Rattle.recency.proofs.LevelLemmas.{length-overlay, touch_sound, touch_same, viewed, copied_kept}
 use Rattle.l2_cache.proofs.l2.L2.hit.Goals as goal
 

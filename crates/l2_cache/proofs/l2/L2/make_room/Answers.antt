@@ -1,8 +1,7 @@
-use Rattle.std.proofs.Common.{◌≡◌, ◌%◌, ◌<◌, ◌∙◌, List, Some, None, Ok, Err, refl, sym, length, [], arith}
-use Rattle.hier_types.specs.Calls.{Call, Makes}
+use Rattle.std.proofs.Common.{◌≡◌, ◌%◌, ◌<◌, ◌∙◌, Some, None, Ok, Err, sym, length, arith}
 use Rattle.hier_types.proofs.CallLemmas.{Makes-none}
 use Rattle.line_codec.specs.Slots.{size_under}
-use Rattle.recency.specs.Levels.{set_of, kept_of}
+use Rattle.recency.specs.Levels.{set_of}
 use Rattle.recency.specs.Steps.{Changes}
 use Rattle.recency.proofs.LevelLemmas.{in_range}
 use Rattle.l2_cache.specs.Room.{leaver}

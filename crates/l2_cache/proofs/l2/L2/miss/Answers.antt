@@ -1,4 +1,4 @@
-use Rattle.std.proofs.Common.{◌≡◌, ◌<◌, ◌∙◌, List, Some, None, Ok, Err, refl, sym, false, length}
+use Rattle.std.proofs.Common.{◌≡◌, ◌∙◌, None, Ok, Err, refl}
 use Rattle.hier_types.proofs.CallLemmas.{Makes-read, Makes-read_then}
 use Rattle.recency.specs.Levels.{kept_of, overlay}
 use Rattle.recency.proofs.ListLemmas.{set_there}

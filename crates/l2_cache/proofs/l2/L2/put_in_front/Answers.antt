@@ -1,4 +1,4 @@
-use Rattle.std.proofs.Common.{◌≡◌, ◌<◌, ◌∙◌, List, Some, refl, sym, false, length, length-set, ap}
+use Rattle.std.proofs.Common.{◌<◌, ◌∙◌, sym, length, length-set}
 use Rattle.recency.proofs.LevelLemmas.{length-overlay}
 use Rattle.l2_cache.proofs.LeaveLemmas.{front_sound, front_written, shown_below}
 use Rattle.l2_cache.proofs.l2.L2.put_in_front.Goals as goal

@@ -1,4 +1,4 @@
-use Rattle.std.proofs.Common.{◌≡◌, length-set}
+use Rattle.std.proofs.Common.{length-set}
 use Rattle.line_codec.specs.Slots.{size_under}
 use Rattle.l2_cache.proofs.LeaveLemmas.{leaver_kept, leaver_good, leaver_fewer, left_written_sound, left_written_same, left_clean_sound, left_clean_same}
 use Rattle.l2_cache.proofs.l2.L2.put_out.Goals as goal

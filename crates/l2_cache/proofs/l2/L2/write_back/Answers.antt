@@ -1,4 +1,4 @@
-use Rattle.std.proofs.Common.{◌≡◌, ◌∙◌, ap, length, length-set}
+use Rattle.std.proofs.Common.{length-set}
 use Rattle.recency.proofs.FlushLemmas.{back_inside, back_sound, back_same}
 use Rattle.l2_cache.proofs.l2.L2.write_back.Goals as goal
 

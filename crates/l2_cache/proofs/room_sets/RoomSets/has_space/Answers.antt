@@ -1,6 +1,5 @@
-use Rattle.std.proofs.Common.{◌≡◌, ◌≤◌, ◌<◌, ◌+◌, ◌*◌, ◌∙◌, ap, [], length, arith}
+use Rattle.std.proofs.Common.{◌≡◌, ◌≤◌, ◌<◌, ◌+◌, ◌*◌, ◌∙◌, ap, length, arith}
 use Rattle.std.proofs.lemmas.Bool.{lt-ltb, le-leb}
-use Rattle.recency.specs.declared.entry.Entry.{Entry}
 use Rattle.line_codec.specs.Slots.{size_under}
 use Rattle.l2_cache.specs.Room.{segments_sum}
 use Rattle.l2_cache.proofs.RoomLemmas.{last_none}

@@ -1,4 +1,4 @@
-use Rattle.std.proofs.Common.{◌≡◌, ◌∙◌, true, false, sym}
+use Rattle.std.proofs.Common.{◌∙◌, sym}
 use Rattle.recency.proofs.UseLemmas.{not_both}
 use Rattle.l2_cache.proofs.RoomLemmas.{if_some}
 use Rattle.l2_cache.proofs.room_sets.RoomSets.leaver.Goals as goal

@@ -1,8 +1,8 @@
-use Rattle.std.proofs.Common.{◌≡◌, ◌≤◌, ◌+◌, ◌-◌, ◌%◌, ◌∙◌, ap, sym, get_or, length, suc, arith}
+use Rattle.std.proofs.Common.{◌≡◌, ◌-◌, ◌∙◌, ap, sym, get_or, length, arith}
 use Rattle.line_codec.specs.Slots.{size_under}
 use Rattle.recency.specs.Kept.{without}
 use Rattle.recency.specs.Levels.{set_of}
-use Rattle.l2_cache.specs.Room.{segments, segments_sum}
+use Rattle.l2_cache.specs.Room.{segments_sum}
 use Rattle.l2_cache.proofs.RoomLemmas.{others_of_kept, others_of_none, others_few, length-split, length-absent}
 use Rattle.l2_cache.proofs.room_sets.RoomSets.others.Goals as goal
 

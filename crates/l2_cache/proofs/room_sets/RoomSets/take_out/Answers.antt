@@ -1,4 +1,4 @@
-use Rattle.std.proofs.Common.{◌≡◌, ◌≤◌, ◌∙◌, ap, get_or, arith}
+use Rattle.std.proofs.Common.{◌∙◌, ap, get_or, arith}
 use Rattle.l2_cache.proofs.RoomLemmas.{taken_out, takes_less}
 use Rattle.l2_cache.proofs.room_sets.RoomSets.take_out.Goals as goal
 
