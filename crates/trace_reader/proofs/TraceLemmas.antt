@@ -1,6 +1,6 @@
 -- Rows that are read one by one.
 use Rattle.std.proofs.Common.{◌≡◌, ◌∙◌, ℕ, ◌+◌, ◌≤◌, ◌==◌, true, false, Bool, List, [], ◌∷◌, length, drop, Option, Some, None, Result, Ok, Err, if◌then◌else◌, refl, sym, ap, arith}
-use Rattle.std.specs.List.{count_by, filter_map, cons_option, slice_split}
+use Rattle.std.specs.List.{count_by, cons_option, slice_split}
 use Rattle.std.specs.Str.Lines.{strip_carriage_return}
 use Rattle.std.specs.Option.{is_some, option_or}
 use Rattle.std.specs.Result.{result_err, result_map_both, result_ok}

@@ -1,5 +1,5 @@
 -- The access that a row writes, or the first fault of the row.
-use Rattle.std.specs.Prelude.{ℕ, ◌*◌, ◌%◌, ◌==◌, Bool, if◌then◌else◌, nat_lt, List, [], ◌∷◌, length, Option, Some, None, Result, Ok, Err}
+use Rattle.std.specs.Prelude.{ℕ, ◌*◌, ◌%◌, ◌==◌, if◌then◌else◌, nat_lt, List, [], ◌∷◌, length, Option, Some, None, Result, Ok, Err}
 use Rattle.hier_types.specs.Span.{Span, has}
 use Rattle.hier_types.specs.declared.access.Access.{Access}
 use Rattle.hier_types.specs.declared.access.Access.TheVariants.{Load, Store}

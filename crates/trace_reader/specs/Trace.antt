@@ -1,6 +1,6 @@
 -- A trace that is read row by row, and as a whole.
 use Rattle.std.specs.Prelude.{◌≡◌, ℕ, List, [], ◌∷◌, drop, filter_map, length, Option, Some, None, Result, Ok, Err, MatchResult, OnOk}
-use Rattle.std.specs.Option.{option_map, option_or}
+use Rattle.std.specs.Option.{option_or}
 use Rattle.std.specs.Result.{result_err, result_map_both, result_ok}
 use Rattle.hier_types.specs.Span.{Span}
 use Rattle.hier_types.specs.declared.access.Access.{Access}
@@ -23,14 +23,14 @@ unfoldable pub first_fault : Span → List (ℕ × List ℕ) → Option TraceFau
 first_fault span [] = None
 first_fault span (row ∷ rows) = option_or (result_err (read_of span row)) (first_fault span rows)
 
--- a trace without a fault has so many accesses; any other has this fault first
-abbrev pub Counts : Span → List ℕ → Result ℕ TraceFault → Type 0
-Counts span bytes result =
+-- rows without a fault have so many accesses; of any others this is the first fault
+abbrev pub Counts : Span → List (ℕ × List ℕ) → Result ℕ TraceFault → Type 0
+Counts span rows result =
     MatchResult result
-    (λ count. (first_fault span (numbered_rows 1 bytes) ≡ None) × (count ≡ length (accesses_of span (numbered_rows 1 bytes))))
-    (λ fault. first_fault span (numbered_rows 1 bytes) ≡ Some fault)
+    (λ count. (first_fault span rows ≡ None) × (count ≡ length (accesses_of span rows)))
+    (λ fault. first_fault span rows ≡ Some fault)
 
--- what is left to read: bytes, the first row of which has this number; or nothing more, after a fault
+-- a reader: the bytes that are left, the number of their first row, and the fault that was found, if any
 pub record Reading : Type 0 where
   pub span : Span
   pub left : List ℕ

@@ -5,7 +5,7 @@ ghost use Rattle.trace_reader.specs.Parts.{parts_behind};
 
 use crate::fault::TraceKind;
 use crate::numbers::{number_of, width_of};
-use crate::parts::{cut, is_only, three_fields, two_fields};
+use crate::parts::{SPACE, cut, is_only, three_fields, two_fields};
 use hier_types::{Access, Geometry};
 
 /// The most bytes of a row, without its end.
@@ -22,7 +22,7 @@ pub fn access_of(row: &[u8], geometry: &Geometry) -> Result<Access, TraceKind>
     if row.len() > ROW_BYTES {
         return Err(TraceKind::Long);
     }
-    let (word, fields) = cut(row, b' ');
+    let (word, fields) = cut(row, SPACE);
     if is_only(word, b'L') {
         return load_of(fields, geometry);
     }

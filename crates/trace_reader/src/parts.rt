@@ -5,7 +5,8 @@ ghost use Rattle.std.specs.Option.{option_map};
 ghost use Rattle.trace_reader.specs.Fields.{is_only, three_of, two_of};
 ghost use Rattle.trace_reader.specs.Parts.{parts, parts_behind};
 
-const SPACE: u8 = b' ';
+/// What divides fields.
+pub const SPACE: u8 = b' ';
 
 /// What stands before the first mark, and what stands behind it, if there is one.
 pub fn cut(bytes: &[u8], mark: u8) -> (&[u8], Option<&[u8]>)

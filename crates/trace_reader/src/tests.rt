@@ -57,7 +57,7 @@ fn traces_that_are_accepted(rt: HostRuntime) -> Result<(), Fail> {
         ("L 10000 4\r\nL 00010000 4\r", 2),
         ("S 12aBc 4 0\nS 13fff 1 fF", 2),
         (
-            "#\n# a comment may have more than the sixty-four bytes of a row\n",
+            "#\n# a comment may have more bytes than the sixty-four of another row\n",
             0,
         ),
         ("#L\nL 10000 1\n#\n\nL 10002 2\n", 2),

@@ -1,7 +1,8 @@
 // Traces, read row by row and as a whole.
 ghost use Rattle.std.specs.Prelude.{◌≡◌, None};
 ghost use Rattle.std.specs.Result.{result_err};
-ghost use Rattle.trace_reader.specs.Trace.{Counts, Reads, next_of};
+ghost use Rattle.trace_reader.specs.Rows.{numbered_rows};
+ghost use Rattle.trace_reader.specs.Trace.{Counts, Reads};
 
 use crate::access_row::access_of;
 use crate::fault::TraceFault;
@@ -73,7 +74,7 @@ impl<'a> TraceRows<'a> {
 
 /// The number of accesses of a trace, or its first fault.
 pub fn check(bytes: &[u8], geometry: Geometry) -> Result<u64, TraceFault>
-    ensures { Counts geometry bytes.now result }
+    ensures { Counts geometry (numbered_rows 1 bytes.now) result }
 {
     let mut rows = TraceRows::new(bytes, geometry);
     let mut count = 0;

@@ -1,4 +1,4 @@
-use Rattle.std.proofs.Common.{◌==◌, sym, ◌∙◌}
+use Rattle.std.proofs.Common.{◌==◌, sym}
 use Rattle.trace_reader.proofs.PartLemmas.{split-found, split-whole}
 use Rattle.trace_reader.proofs.parts.cut.Goals as goal
 

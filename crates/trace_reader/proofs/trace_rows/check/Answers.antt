@@ -1,6 +1,5 @@
-use Rattle.std.proofs.Common.{◌≡◌, ◌∙◌, ◌+◌, ℕ, List, Ok, Err, None, length, sym, ap, arith}
+use Rattle.std.proofs.Common.{◌∙◌, ℕ, List, length, sym, ap, arith}
 use Rattle.std.proofs.lemmas.Result.{err_from_is_err_and}
-use Rattle.trace_reader.specs.Rows.{numbered_rows}
 use Rattle.trace_reader.specs.Trace.{Reading, accesses_of, first_fault, rows_left}
 use Rattle.trace_reader.proofs.TraceLemmas.{goes-on, ends, fails, no-fault, no-access, length-rows}
 use Rattle.trace_reader.proofs.trace_rows.check.Goals as goal
