@@ -3,7 +3,7 @@ use Rattle.std.proofs.Common.{◌≡◌, ◌∙◌, ℕ, ◌+◌, ◌≤◌, ◌
 use Rattle.std.specs.List.{count_by, cons_option, slice_split}
 use Rattle.std.specs.Str.Lines.{strip_carriage_return}
 use Rattle.std.specs.Option.{is_some, option_or}
-use Rattle.std.specs.Result.{result_err, result_map_both, result_ok}
+use Rattle.std.specs.Result.{result_err, result_ok}
 use Rattle.std.proofs.lemmas.List.{length-map}
 use Rattle.std.proofs.lemmas.List.Sums.{count_by-le-length}
 use Rattle.std.proofs.lemmas.List.Splits.{length-slice_split}
@@ -11,7 +11,7 @@ use Rattle.std.proofs.lemmas.Grind.{common_steps}
 use Rattle.hier_types.specs.Span.{Span}
 use Rattle.hier_types.specs.declared.access.Access.{Access}
 use Rattle.trace_reader.specs.Rows.{numbered, numbered_rows, rows_of, is_passed_over}
-use Rattle.trace_reader.specs.Trace.{Reading, Reads, accesses_of, answer_of, first_fault, next_of, read_of, rows_left}
+use Rattle.trace_reader.specs.Trace.{Reading, Reads, accesses_of, answer_of, answered, first_fault, next_of, read_of, rows_left}
 use Rattle.trace_reader.specs.declared.fault.TraceFault.{TraceFault}
 
 -- the first row has an access
@@ -21,7 +21,7 @@ pub record Read (span : Span) (rows : List (ℕ × List ℕ)) : Type 0 where
   pub accesses : length (accesses_of span rows) ≡ length (accesses_of span (drop 1 rows)) + 1
 
 read-cons : (span : Span) (row : ℕ × List ℕ) (rows : List (ℕ × List ℕ)) (read : Result Access TraceFault) (access : Access) → read_of span row ≡ read
-    → result_map_both Some (λ (fault : TraceFault). fault) read ≡ Ok (Some access) → Read span (row ∷ rows)
+    → answered read ≡ Ok (Some access) → Read span (row ∷ rows)
 unfolding first_fault accesses_of
 read-cons span row rows (Ok found) access e is = record {
   some = grind (arith, common_steps);
@@ -50,7 +50,7 @@ pub goes-on : (span : Span) (before after : Reading) (found : Option Access) →
 goes-on span before after found at none reads t = read-some span (rows_left before) found t (next-at span before after (Ok found) at none reads)
 
 none-cons : (row : ℕ × List ℕ) (rows : List (ℕ × List ℕ)) (read : Result Access TraceFault)
-    → result_map_both Some (λ (fault : TraceFault). fault) read ≡ Ok None → row ∷ rows ≡ []
+    → answered read ≡ Ok None → row ∷ rows ≡ []
 none-cons row rows (Ok found) e = cc
 none-cons row rows (Err fault) e = cc
 
@@ -73,7 +73,7 @@ unfolding accesses_of
 no-access span = refl
 
 fault-cons : (span : Span) (row : ℕ × List ℕ) (rows : List (ℕ × List ℕ)) (read : Result Access TraceFault) (fault : TraceFault) → read_of span row ≡ read
-    → result_map_both Some (λ (fault : TraceFault). fault) read ≡ Err fault → first_fault span (row ∷ rows) ≡ Some fault
+    → answered read ≡ Err fault → first_fault span (row ∷ rows) ≡ Some fault
 unfolding first_fault
 fault-cons span row rows (Ok found) fault e is = cc
 fault-cons span row rows (Err found) fault e is =

@@ -1,7 +1,7 @@
 -- A trace that is read row by row, and as a whole.
 use Rattle.std.specs.Prelude.{◌≡◌, ℕ, List, [], ◌∷◌, drop, filter_map, length, Option, Some, None, Result, Ok, Err, MatchResult, OnOk}
 use Rattle.std.specs.Option.{option_or}
-use Rattle.std.specs.Result.{result_err, result_map_both, result_ok}
+use Rattle.std.specs.Result.{result_err, result_ok}
 use Rattle.hier_types.specs.Span.{Span}
 use Rattle.hier_types.specs.declared.access.Access.{Access}
 use Rattle.trace_reader.specs.Access.{access_of}
@@ -9,10 +9,14 @@ use Rattle.trace_reader.specs.Rows.{numbered_rows}
 use Rattle.trace_reader.specs.declared.fault.TraceFault.{TraceFault}
 use Rattle.trace_reader.specs.declared.fault.TraceKind.{TraceKind}
 
+-- a row's fault has the row's number
+abbrev pub at_row : ℕ → Result Access TraceKind → Result Access TraceFault
+at_row number (Ok access) = Ok access
+at_row number (Err kind) = Err (record { line = number; kind = kind })
+
 -- the access of a numbered row, or its fault
 abbrev pub read_of : Span → ℕ × List ℕ → Result Access TraceFault
-read_of span row =
-    result_map_both (λ (access : Access). access) (λ (kind : TraceKind). record { line = row.0; kind = kind }) (access_of span row.1)
+read_of span row = at_row row.0 (access_of span row.1)
 
 -- the accesses of the rows that have no fault
 unfoldable pub accesses_of : Span → List (ℕ × List ℕ) → List Access
@@ -41,10 +45,15 @@ pub record Reading : Type 0 where
 abbrev pub rows_left : Reading → List (ℕ × List ℕ)
 rows_left reading = numbered_rows reading.number reading.left
 
+-- what a reader answers of a row
+abbrev pub answered : Result Access TraceFault → Result (Option Access) TraceFault
+answered (Ok access) = Ok (Some access)
+answered (Err fault) = Err fault
+
 -- the first row's access or fault, and nothing where there is no row
 abbrev pub next_of : Span → List (ℕ × List ℕ) → Result (Option Access) TraceFault
 next_of span [] = Ok None
-next_of span (row ∷ rows) = result_map_both Some (λ (fault : TraceFault). fault) (read_of span row)
+next_of span (row ∷ rows) = answered (read_of span row)
 
 -- what the next call answers: the fault that was found, else what the first row says
 abbrev pub answer_of : Reading → Option TraceFault → Result (Option Access) TraceFault

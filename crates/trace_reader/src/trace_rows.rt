@@ -1,6 +1,5 @@
 // Traces, read row by row and as a whole.
 ghost use Rattle.std.specs.Prelude.{◌≡◌, None};
-ghost use Rattle.std.specs.Result.{result_err};
 ghost use Rattle.trace_reader.specs.Rows.{numbered_rows};
 ghost use Rattle.trace_reader.specs.Trace.{Counts, Reads};
 
