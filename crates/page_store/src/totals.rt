@@ -1,7 +1,7 @@
 // What the pages take, summed anew.
 ghost use Rattle.std.specs.Prelude.{◌≡◌, ◌≤◌, ◌*◌, length, count_by};
 ghost use Rattle.std.specs.List.{sum_by};
-ghost use Rattle.page_store.specs.Sizes.{bytes_at};
+ghost use Rattle.page_plan.specs.Sizes.{bytes_at};
 ghost use Rattle.page_store.specs.KeptSizes.{has_none, has_block, exceptions_kept, encoded_kept, sum_kept, totals_kept};
 
 use crate::desc::Desc;
