@@ -1,5 +1,5 @@
 // One page of the bytes, as lines.
-ghost use Rattle.std.specs.Prelude.{◌≡◌, ◌+◌, ◌*◌, ◌^◌, ◌<◌, ◌≤◌, length};
+ghost use Rattle.std.specs.Prelude.{◌≡◌, ◌+◌, ◌^◌, ◌<◌, ◌≤◌, length};
 ghost use Rattle.page_plan.specs.Pages.{page_of};
 ghost use Rattle.sim_survey.specs.Filled.{line_at, page_count, lines_of_filled};
 

@@ -1,6 +1,5 @@
 // Many pages, measured side by side.
-ghost use Rattle.std.specs.Prelude.{◌≡◌, ◌+◌, ◌*◌, ◌/◌, ◌<◌, ◌≤◌, ℕ, All, length, map, IfOk, IfSome};
-ghost use Rattle.std.specs.List.{range_with_len};
+ghost use Rattle.std.specs.Prelude.{◌≡◌, ◌+◌, ◌<◌, ◌≤◌, All, length, map, IfOk};
 ghost use Rattle.page_plan.specs.Pages.{page_of, pages_of};
 ghost use Rattle.page_plan.specs.Sizes.{sizes_of_memory};
 ghost use Rattle.sim_survey.specs.Filled.{page_count, lines_of_filled};

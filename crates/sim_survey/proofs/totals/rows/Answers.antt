@@ -1,8 +1,6 @@
-use Rattle.std.proofs.Common.{◌≡◌, ◌<◌, ◌≤◌, ◌-◌, ◌∙◌, ℕ, length, map, ap, arith}
+use Rattle.std.proofs.Common.{◌≡◌, ◌<◌, ◌-◌, ◌∙◌, ℕ, length, map, ap, arith}
 use Rattle.std.specs.List.{range_with_len}
-use Rattle.std.proofs.Crossing.{crosses, frees}
 use Rattle.std.proofs.lemmas.Slice.Zip.{AllZip-map}
-use denote.Param.Send.{sendable}
 use Rattle.rayon.specs.Numbers.{nat_range}
 use Rattle.rayon.proofs.ListFacts.{IfOk-then}
 use Rattle.rayon.proofs.ToStd.{nat_range-All}

@@ -1,7 +1,7 @@
-use Rattle.std.proofs.Common.{◌≡◌, ◌≤◌, ◌∙◌, length, map, ap, All}
+use Rattle.std.proofs.Common.{◌∙◌, ap}
 use Rattle.page_plan.specs.Pages.{pages_of}
 use Rattle.sim_survey.specs.Filled.{lines_of_filled}
-use Rattle.sim_survey.specs.Rows.{row_of, HasKnownOrder, totals_of}
+use Rattle.sim_survey.specs.Rows.{totals_of}
 use Rattle.sim_survey.proofs.TotalLemmas.{rows_known, rows_few, totals_are}
 use Rattle.sim_survey.proofs.totals.survey.Goals as goal
 
