@@ -1,0 +1,8 @@
+//! The command line of the simulator: a command, a file and options. Contracts see the words as texts, a request as a
+//! function of the values that the words name, and any other spelling as the matches that `clap` states for it. It
+//! opens no file and prints nothing.
+#![tactic(auto)]
+
+mod command_line;
+
+pub fn words_line<'a>(alloc: std::alloc::Global) -> Result<clap::Command<'a>, clap::Error> { command_line::command_line(alloc) }
