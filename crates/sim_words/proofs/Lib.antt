@@ -1,3 +1,4 @@
-pub mod TextLemmas
 pub mod PlainMatches
 pub mod PlainWalk
+pub mod TextLemmas
+pub mod ValueLemmas

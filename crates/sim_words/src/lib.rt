@@ -4,5 +4,8 @@
 #![tactic(auto)]
 
 mod command_line;
+mod read;
+mod request;
+mod values;
 
-pub fn words_line<'a>(alloc: std::alloc::Global) -> Result<clap::Command<'a>, clap::Error> { command_line::command_line(alloc) }
+pub use request::{Command, Request, WordsFault};
