@@ -8,4 +8,5 @@ mod read;
 mod request;
 mod values;
 
+pub use read::read_words;
 pub use request::{Command, Request, WordsFault};

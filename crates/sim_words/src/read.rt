@@ -1,6 +1,6 @@
 // The request of a command line.
-ghost use Rattle.std.specs.Prelude.{◌≡◌, ◌≤◌, IfSome, List, map, string_bytes};
-ghost use Rattle.clap.specs.Words.{Text, first_value, found_of};
+ghost use Rattle.std.specs.Prelude.{◌≡◌, ◌≤◌, IfSome, List, codes, map, string_bytes};
+ghost use Rattle.clap.specs.Words.{Text, first_value, found_of, kind_of};
 ghost use Rattle.sim_words.specs.Requests.{Answers, AnswersAsMatched, asked, command_asked, given_or, first_level_asked, is_command, number_asked, second_level_asked, settings_asked, span_asked};
 ghost use Rattle.sim_words.specs.Spelling.{Given, IsPlainSpelling, plain_value};
 ghost use Rattle.sim_words.specs.Values.{number_within, power_within};
@@ -8,7 +8,7 @@ ghost use Rattle.sim_words.specs.Values.{number_within, power_within};
 use crate::command_line::command_line;
 use crate::request::{Command, Request, WordsFault};
 use crate::values::{beats_of, codec_of, number_within, power_within};
-use clap::ArgMatches;
+use clap::{ArgMatches, Error};
 use clap::error::ErrorKind;
 use hier_types::{Geometry, SettingName, Settings};
 use std::alloc::Global;
@@ -78,4 +78,156 @@ fn second_level_of(matches: &ArgMatches) -> Result<(u32, u32), SettingName>
         return Err(SettingName::L2Ways);
     };
     Ok((sets, ways))
+}
+
+/// The settings, or the first of them whose value breaks its rule.
+fn settings_of(matches: &ArgMatches) -> Result<Settings, SettingName>
+    ensures { result ≡ settings_asked (first_value (found_of matches.now)) }
+{
+    let geometry = match span_of(matches) {
+        Ok(geometry) => geometry,
+        Err(name) => return Err(name),
+    };
+    let Some(frames) = number_or(matches, "frames", "4096", 1, 65_536) else {
+        return Err(SettingName::Frames);
+    };
+    let Some(codec) = codec_of(given_or(matches, "codec", "bdi")) else {
+        return Err(SettingName::Codec);
+    };
+    let (l1_sets, l1_ways) = match first_level_of(matches) {
+        Ok(level) => level,
+        Err(name) => return Err(name),
+    };
+    let (l2_sets, l2_ways) = match second_level_of(matches) {
+        Ok(level) => level,
+        Err(name) => return Err(name),
+    };
+    let Some(meta) = number_or(matches, "meta", "64", 1, 1024) else {
+        return Err(SettingName::Meta);
+    };
+    let Some(budget) = budget_of(matches) else {
+        return Err(SettingName::Budget);
+    };
+    let Some(beats) = beats_of(given_or(matches, "beats", "hhhhhhhmhhhhhhhc")) else {
+        return Err(SettingName::Beats);
+    };
+    Ok(Settings {
+        geometry,
+        frames,
+        codec,
+        l1_sets,
+        l1_ways,
+        l2_sets,
+        l2_ways,
+        meta,
+        budget,
+        beats,
+        json: given_or(matches, "json", "false") == "true",
+    })
+}
+
+/// How many instructions or accesses a run makes at most.
+fn budget_of(matches: &ArgMatches) -> Option<u64>
+    ensures { result ≡ number_within 0 1000000000000000 (given_or (first_value (found_of matches.now)) (codes "budget") (codes "1000000000000")) }
+{
+    let text = given_or(matches, "budget", "1000000000000");
+    number_within(text, 0, 1_000_000_000_000_000)
+}
+
+/// Whether the word is in the table of commands.
+fn is_command(word: &str) -> bool
+    ensures { result ≡ is_command word.now }
+{
+    word == "run"
+        || word == "image"
+        || word == "layout"
+        || word == "flat"
+        || word == "trace"
+        || word == "survey"
+        || word == "gen"
+        || word == "demo"
+}
+
+/// The number of a generated file.
+fn number_of(file: &str) -> Option<u32>
+    ensures { result ≡ number_asked file.now }
+{
+    let number = number_within(file, 0, u32::MAX as u64)?;
+    Some(number as u32)
+}
+
+/// The command of a word of the table, or of any other word the last one. None where its number breaks the rule.
+fn command_of(word: &str, file: &str) -> Option<Command>
+    ensures { result ≡ command_asked word.now file.now }
+{
+    match word {
+        "run" => Some(Command::Run),
+        "image" => Some(Command::Image),
+        "layout" => Some(Command::Layout),
+        "flat" => Some(Command::Flat),
+        "trace" => Some(Command::Trace),
+        "survey" => Some(Command::Survey),
+        "gen" => Some(Command::Gen {
+            number: number_of(file)?,
+        }),
+        other => Some(Command::Demo {
+            number: number_of(file)?,
+        }),
+    }
+}
+
+/// The request that the matches make.
+fn request_of(alloc: Global, matches: &ArgMatches) -> Result<Request, WordsFault>
+    ensures { Answers (asked (first_value (found_of matches.now))) result }
+{
+    let word = given_or(matches, "command", "");
+    if !is_command(word) {
+        return Err(WordsFault::Setting(SettingName::Command));
+    }
+    let settings = match settings_of(matches) {
+        Ok(settings) => settings,
+        Err(name) => return Err(WordsFault::Setting(name)),
+    };
+    let file = given_or(matches, "file", "");
+    let Some(command) = command_of(word, file) else {
+        return Err(WordsFault::Setting(SettingName::Number));
+    };
+    match String::from_str(alloc, file) {
+        Ok(file) => Ok(Request {
+            command,
+            file,
+            settings,
+        }),
+        Err(_) => Err(WordsFault::NoMemory),
+    }
+}
+
+/// What the words, which are those after the program's name, ask for. `Usage` where they are no command line, which
+/// never comes for a command, a file and then options with their values; `Setting` for the first value that breaks
+/// its rule, in the order of `SettingName`.
+pub fn read_words(alloc: Global, words: &[String]) -> Result<Request, WordsFault>
+    ensures plain { (command file : Text) (options : List Given) → IsPlainSpelling command file options (map string_bytes words.now)
+        → Answers (asked (plain_value command file options)) result }
+    ensures matched { AnswersAsMatched (map string_bytes words.now) result }
+{
+    let command = match command_line(alloc) {
+        Ok(command) => command,
+        Err(_) => return Err(WordsFault::NoMemory),
+    };
+    match command.try_get_matches_from(words) {
+        Ok(matches) => request_of(alloc, &matches),
+        Err(error) => Err(fault_of(&error)),
+    }
+}
+
+/// A fault of the words, unless memory was wanting.
+fn fault_of(error: &Error) -> WordsFault
+    ensures wanting { kind_of error.now ≡ ErrorKind.OutOfMemory → result ≡ WordsFault.NoMemory }
+    ensures words { (kind_of error.now ≡ ErrorKind.OutOfMemory → ⊥) → result ≡ WordsFault.Usage }
+{
+    if error.kind() == ErrorKind::OutOfMemory {
+        WordsFault::NoMemory
+    } else {
+        WordsFault::Usage
+    }
 }

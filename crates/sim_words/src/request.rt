@@ -1,9 +1,4 @@
 // What the words ask for.
-ghost use Rattle.std.specs.Prelude.{◌≡◌, List, map, string_bytes};
-ghost use Rattle.clap.specs.Words.{Text, first_value, found_of};
-ghost use Rattle.sim_words.specs.Requests.{Answers, AnswersAsMatched, asked};
-ghost use Rattle.sim_words.specs.Spelling.{Given, IsPlainSpelling, plain_value};
-
 use hier_types::{SettingName, Settings};
 
 /// What is to be done with the file.
