@@ -1,4 +1,6 @@
+pub mod BeatLemmas
 pub mod PlainMatches
 pub mod PlainWalk
+pub mod ReadLemmas
 pub mod TextLemmas
 pub mod ValueLemmas

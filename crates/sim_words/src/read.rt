@@ -1,5 +1,5 @@
 // The request of a command line.
-ghost use Rattle.std.specs.Prelude.{◌≡◌, ◌≤◌, IfSome, List, codes, map, string_bytes};
+ghost use Rattle.std.specs.Prelude.{◌≡◌, ◌≤◌, ◌⊎◌, IfSome, List, codes, map, string_bytes};
 ghost use Rattle.clap.specs.Words.{Text, first_value, found_of, kind_of};
 ghost use Rattle.sim_words.specs.Requests.{Answers, AnswersAsMatched, asked, command_asked, given_or, first_level_asked, is_command, number_asked, second_level_asked, settings_asked, span_asked};
 ghost use Rattle.sim_words.specs.Spelling.{Given, IsPlainSpelling, plain_value};
@@ -223,7 +223,7 @@ pub fn read_words(alloc: Global, words: &[String]) -> Result<Request, WordsFault
 /// A fault of the words, unless memory was wanting.
 fn fault_of(error: &Error) -> WordsFault
     ensures wanting { kind_of error.now ≡ ErrorKind.OutOfMemory → result ≡ WordsFault.NoMemory }
-    ensures words { (kind_of error.now ≡ ErrorKind.OutOfMemory → ⊥) → result ≡ WordsFault.Usage }
+    ensures words { ((kind_of error.now ≡ ErrorKind.OutOfMemory) × (result ≡ WordsFault.NoMemory)) ⊎ (result ≡ WordsFault.Usage) }
 {
     if error.kind() == ErrorKind::OutOfMemory {
         WordsFault::NoMemory
