@@ -1,6 +1,7 @@
 // The request of a command line.
-ghost use Rattle.std.specs.Prelude.{◌≡◌, ◌≤◌, ◌⊎◌, IfSome, List, codes, map, string_bytes};
+ghost use Rattle.std.specs.Prelude.{◌≡◌, ◌≤◌, ◌⊎◌, ◌^◌, IfOk, IfSome, List, codes, map, string_bytes};
 ghost use Rattle.clap.specs.Words.{Text, first_value, found_of, kind_of};
+ghost use Rattle.hier_types.specs.Settings.{AreWithinRules, IsPowerOfTwo, IsWithin};
 ghost use Rattle.sim_words.specs.Requests.{Answers, AnswersAsMatched, asked, command_asked, given_or, first_level_asked, is_command, number_asked, second_level_asked, settings_asked, span_asked};
 ghost use Rattle.sim_words.specs.Spelling.{Given, IsPlainSpelling, plain_value};
 ghost use Rattle.sim_words.specs.Values.{number_within, power_within};
@@ -34,7 +35,8 @@ fn number_or<'a>(matches: &ArgMatches<'a>, name: &str, default: &'a str, low: u3
 
 /// The power of two that is given to a name, where it is at most `most`.
 fn power_or<'a>(matches: &ArgMatches<'a>, name: &str, default: &'a str, most: u32) -> Option<u32>
-    ensures { result ≡ power_within most (given_or (first_value (found_of matches.now)) name.now default.entry.now) }
+    ensures power { IfSome result (IsPowerOfTwo most) }
+    ensures rule { result ≡ power_within most (given_or (first_value (found_of matches.now)) name.now default.entry.now) }
 {
     let number = power_within(given_or(matches, name, default), most as u64)?;
     Some(number as u32)
@@ -42,7 +44,8 @@ fn power_or<'a>(matches: &ArgMatches<'a>, name: &str, default: &'a str, most: u3
 
 /// The span of the guest.
 fn span_of(matches: &ArgMatches) -> Result<Geometry, SettingName>
-    ensures { result ≡ span_asked (first_value (found_of matches.now)) }
+    ensures asked { result ≡ span_asked (first_value (found_of matches.now)) }
+    ensures pages { IfOk result (λ span. IsWithin 1 65536 span.pages) }
 {
     let Some(base) = number_or(matches, "base", "16", 0, 1_048_574) else {
         return Err(SettingName::Base);
@@ -56,7 +59,8 @@ fn span_of(matches: &ArgMatches) -> Result<Geometry, SettingName>
 
 /// The sets and the ways of the first level.
 fn first_level_of(matches: &ArgMatches) -> Result<(u32, u32), SettingName>
-    ensures { result ≡ first_level_asked (first_value (found_of matches.now)) }
+    ensures asked { result ≡ first_level_asked (first_value (found_of matches.now)) }
+    ensures rules { IfOk result (λ level. IsPowerOfTwo 1024 level.0 × IsWithin 1 16 level.1) }
 {
     let Some(sets) = power_or(matches, "l1-sets", "64", 1024) else {
         return Err(SettingName::L1Sets);
@@ -69,7 +73,8 @@ fn first_level_of(matches: &ArgMatches) -> Result<(u32, u32), SettingName>
 
 /// The sets and the ways of the second level.
 fn second_level_of(matches: &ArgMatches) -> Result<(u32, u32), SettingName>
-    ensures { result ≡ second_level_asked (first_value (found_of matches.now)) }
+    ensures asked { result ≡ second_level_asked (first_value (found_of matches.now)) }
+    ensures rules { IfOk result (λ level. IsPowerOfTwo 4096 level.0 × IsWithin 1 16 level.1) }
 {
     let Some(sets) = power_or(matches, "l2-sets", "512", 4096) else {
         return Err(SettingName::L2Sets);
@@ -82,7 +87,8 @@ fn second_level_of(matches: &ArgMatches) -> Result<(u32, u32), SettingName>
 
 /// The settings, or the first of them whose value breaks its rule.
 fn settings_of(matches: &ArgMatches) -> Result<Settings, SettingName>
-    ensures { result ≡ settings_asked (first_value (found_of matches.now)) }
+    ensures asked { result ≡ settings_asked (first_value (found_of matches.now)) }
+    ensures rules { IfOk result AreWithinRules }
 {
     let geometry = match span_of(matches) {
         Ok(geometry) => geometry,
@@ -128,7 +134,8 @@ fn settings_of(matches: &ArgMatches) -> Result<Settings, SettingName>
 
 /// How many instructions or accesses a run makes at most.
 fn budget_of(matches: &ArgMatches) -> Option<u64>
-    ensures { result ≡ number_within 0 1000000000000000 (given_or (first_value (found_of matches.now)) (codes "budget") (codes "1000000000000")) }
+    ensures range { IfSome result (λ n. n ≤ 10 ^ 15) }
+    ensures rule { result ≡ number_within 0 1000000000000000 (given_or (first_value (found_of matches.now)) (codes "budget") (codes "1000000000000")) }
 {
     let text = given_or(matches, "budget", "1000000000000");
     number_within(text, 0, 1_000_000_000_000_000)
@@ -178,7 +185,8 @@ fn command_of(word: &str, file: &str) -> Option<Command>
 
 /// The request that the matches make.
 fn request_of(alloc: Global, matches: &ArgMatches) -> Result<Request, WordsFault>
-    ensures { Answers (asked (first_value (found_of matches.now))) result }
+    ensures asked { Answers (asked (first_value (found_of matches.now))) result }
+    ensures rules { IfOk result (λ request. AreWithinRules request.settings) }
 {
     let word = given_or(matches, "command", "");
     if !is_command(word) {
@@ -209,6 +217,7 @@ pub fn read_words(alloc: Global, words: &[String]) -> Result<Request, WordsFault
     ensures plain { (command file : Text) (options : List Given) → IsPlainSpelling command file options (map string_bytes words.now)
         → Answers (asked (plain_value command file options)) result }
     ensures matched { AnswersAsMatched (map string_bytes words.now) result }
+    ensures rules { IfOk result (λ request. AreWithinRules request.settings) }
 {
     let command = match command_line(alloc) {
         Ok(command) => command,

@@ -2,6 +2,7 @@
 ghost use Rattle.std.specs.Prelude.{◌≡◌, ◌≤◌, IfSome, List, length, map};
 ghost use Rattle.std.specs.Char.{is_ascii_digit};
 ghost use Rattle.std.specs.List.{list_all, list_any};
+ghost use Rattle.hier_types.specs.Settings.{IsPowerOfTwo};
 ghost use Rattle.sim_words.specs.Values.{beat_of, beats_of, codec_of, is_beat_letter, is_number, number_within, power_within, within};
 
 use arrayvec::ArrayVec;
@@ -50,10 +51,12 @@ fn within(number: u64, low: u64, high: u64) -> Option<u64>
     }
 }
 
+#[tactic(auto, using(crate::proofs::PowerLemmas::power_of_two))]
 /// The power of two that the text writes, where it is at most `most`.
 pub(crate) fn power_within(text: &str, most: u64) -> Option<u64>
     ensures rule { result ≡ power_within most text.now }
     ensures range { IfSome result (λ n. n ≤ most) }
+    ensures power { IfSome result (IsPowerOfTwo most) }
 {
     let number = number_within(text, 1, most)?;
     if number.is_power_of_two() {

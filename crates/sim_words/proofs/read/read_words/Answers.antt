@@ -9,12 +9,12 @@ use Rattle.sim_words.proofs.read.read_words.Goals as goal
 pub returns-in-Ok-try_get_matches_from-clause-plain : goal.returns-in-Ok-try_get_matches_from-clause-plain
 returns-in-Ok-try_get_matches_from-clause-plain c command file options is =
     answers_plain (app_of c.in-Ok.command) c.in-Ok.ensures (map string_bytes c.args.words.now) c.in-Ok-try_get_matches_from.matches
-    c.in-Ok-try_get_matches_from.ensures.matches c.request_of.result c.request_of.ensures command file options is
+    c.in-Ok-try_get_matches_from.ensures.matches c.request_of.result c.request_of.ensures.asked command file options is
 
 pub returns-in-Ok-try_get_matches_from-clause-matched : goal.returns-in-Ok-try_get_matches_from-clause-matched
 returns-in-Ok-try_get_matches_from-clause-matched c =
     answers_as_matched (app_of c.in-Ok.command) c.in-Ok.ensures (map string_bytes c.args.words.now) c.in-Ok-try_get_matches_from.matches
-    c.in-Ok-try_get_matches_from.ensures.matches c.request_of.result c.request_of.ensures
+    c.in-Ok-try_get_matches_from.ensures.matches c.request_of.result c.request_of.ensures.asked
 
 pub returns-in-Err-try_get_matches_from-clause-plain : goal.returns-in-Err-try_get_matches_from-clause-plain
 returns-in-Err-try_get_matches_from-clause-plain c command file options is =
