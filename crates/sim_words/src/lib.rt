@@ -6,6 +6,8 @@
 mod command_line;
 mod read;
 mod request;
+#[cfg(test)]
+mod tests;
 mod values;
 
 pub use read::read_words;

@@ -1,7 +1,7 @@
 // The request of a command line.
-ghost use Rattle.std.specs.Prelude.{◌≡◌, ◌≤◌, ◌⊎◌, ◌^◌, IfOk, IfSome, List, codes, map, string_bytes};
+ghost use Rattle.std.specs.Prelude.{◌≡◌, ◌≤◌, ◌⊎◌, ◌^◌, IfOk, IfSome, List, [], codes, map, string_bytes};
 ghost use Rattle.clap.specs.Words.{Text, first_value, found_of, kind_of};
-ghost use Rattle.hier_types.specs.Settings.{AreWithinRules, IsPowerOfTwo, IsWithin};
+ghost use Rattle.hier_types.specs.Settings.{AreWithinRules, IsPowerOfTwo, IsWithin, default_settings};
 ghost use Rattle.sim_words.specs.Requests.{Answers, AnswersAsMatched, asked, command_asked, given_or, first_level_asked, is_command, number_asked, second_level_asked, settings_asked, span_asked};
 ghost use Rattle.sim_words.specs.Spelling.{Given, IsPlainSpelling, plain_value};
 ghost use Rattle.sim_words.specs.Values.{number_within, power_within};
@@ -216,6 +216,8 @@ fn request_of(alloc: Global, matches: &ArgMatches) -> Result<Request, WordsFault
 pub fn read_words(alloc: Global, words: &[String]) -> Result<Request, WordsFault>
     ensures plain { (command file : Text) (options : List Given) → IsPlainSpelling command file options (map string_bytes words.now)
         → Answers (asked (plain_value command file options)) result }
+    ensures defaults { (command file : Text) → IsPlainSpelling command file [] (map string_bytes words.now)
+        → IfOk result (λ request. request.settings ≡ default_settings) }
     ensures matched { AnswersAsMatched (map string_bytes words.now) result }
     ensures rules { IfOk result (λ request. AreWithinRules request.settings) }
 {

@@ -51,8 +51,8 @@ fn within(number: u64, low: u64, high: u64) -> Option<u64>
     }
 }
 
-#[tactic(auto, using(crate::proofs::PowerLemmas::power_of_two))]
 /// The power of two that the text writes, where it is at most `most`.
+#[tactic(auto, using(crate::proofs::PowerLemmas::power_of_two))]
 pub(crate) fn power_within(text: &str, most: u64) -> Option<u64>
     ensures rule { result ≡ power_within most text.now }
     ensures range { IfSome result (λ n. n ≤ most) }

@@ -1,15 +1,20 @@
-use Rattle.std.proofs.Common.{◌≡◌, ◌∙◌, ap, sym, subst, map, string_bytes, List, Result, Err, inl, inr, true}
+use Rattle.std.proofs.Common.{◌≡◌, ◌∙◌, ap, sym, subst, map, string_bytes, List, Result, Err, inl, inr, true, []}
 use Rattle.clap.specs.Words.{App, app_of, is_simple_and_free}
 use Rattle.sim_words.specs.Requests.{Answers, AnswersAsMatched, asked}
 use Rattle.sim_words.specs.Spelling.{plain_value}
 use Rattle.sim_words.specs.declared.request.WordsFault.{WordsFault}
-use Rattle.sim_words.proofs.ReadLemmas.{answers_as_matched, answers_plain, fault_stated, free, plain_taken}
+use Rattle.sim_words.proofs.ReadLemmas.{answers_as_matched, answers_plain, fault_stated, free, plain_defaults, plain_taken}
 use Rattle.sim_words.proofs.read.read_words.Goals as goal
 
 pub returns-in-Ok-try_get_matches_from-clause-plain : goal.returns-in-Ok-try_get_matches_from-clause-plain
 returns-in-Ok-try_get_matches_from-clause-plain c command file options is =
     answers_plain (app_of c.in-Ok.command) c.in-Ok.ensures (map string_bytes c.args.words.now) c.in-Ok-try_get_matches_from.matches
     c.in-Ok-try_get_matches_from.ensures.matches c.request_of.result c.request_of.ensures.asked command file options is
+
+pub returns-in-Ok-try_get_matches_from-clause-defaults : goal.returns-in-Ok-try_get_matches_from-clause-defaults
+returns-in-Ok-try_get_matches_from-clause-defaults c command file is =
+    plain_defaults command file c.request_of.result (answers_plain (app_of c.in-Ok.command) c.in-Ok.ensures (map string_bytes c.args.words.now)
+    c.in-Ok-try_get_matches_from.matches c.in-Ok-try_get_matches_from.ensures.matches c.request_of.result c.request_of.ensures.asked command file [] is)
 
 pub returns-in-Ok-try_get_matches_from-clause-matched : goal.returns-in-Ok-try_get_matches_from-clause-matched
 returns-in-Ok-try_get_matches_from-clause-matched c =
