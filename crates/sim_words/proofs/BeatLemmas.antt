@@ -1,5 +1,5 @@
 -- What a word of beats has of its letters.
-use Rattle.std.proofs.Common.{◌≡◌, ◌∙◌, ◌==◌, ◌&&◌, ◌||◌, ◌≤◌, Bool, true, false, cond, refl, sym, ap, ap₂, subst, arith, List, [], ◌∷◌, ℕ, Option, Some, None, SomeIff, length, map, nat_le, le-leb, true≢false}
+use Rattle.std.proofs.Common.{◌≡◌, ◌∙◌, ◌==◌, ◌||◌, ◌≤◌, Bool, true, false, cond, refl, sym, ap, ap₂, arith, List, [], ◌∷◌, ℕ, Option, Some, None, SomeIff, length, map, le-leb}
 use Rattle.std.specs.List.{list_all, list_any}
 use Rattle.std.proofs.lemmas.List.{length-map}
 use Rattle.clap.specs.Words.{Text}

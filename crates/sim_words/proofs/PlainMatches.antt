@@ -1,16 +1,15 @@
 -- What `clap` makes of words of the plain spelling.
-use Rattle.std.proofs.Common.{◌≡◌, ◌≢◌, ◌∙◌, ◌&&◌, ◌||◌, ◌++◌, Bool, true, false, cond, refl, sym, subst, ap, ap₂, List, [], ◌∷◌, ℕ, bytes_eq, Option, Some, None, codes, map, append_assoc, append-nil, true≢false, find, option_map, option_and_then, slice_get, is_some, take}
+use Rattle.std.proofs.Common.{◌≡◌, ◌∙◌, ◌&&◌, ◌||◌, ◌++◌, Bool, true, false, cond, refl, sym, subst, ap, ap₂, List, [], ◌∷◌, bytes_eq, Option, Some, None, codes, map, append-nil, true≢false, find, option_map, option_and_then, slice_get, is_some, take}
 use Rattle.std.specs.List.{AllByRecursion, flat_map, fold, list_all, list_any}
 use Rattle.std.proofs.lemmas.List.Sums.{fold-append}
 use Rattle.clap.proofs.WalkLemmas.{list_any-map}
-use Rattle.clap.specs.Walk.{Held, Row, Rule, Text, Walk, first_of, finished, at_row, has_row, idle, more_values, nothing_held, walk, walk_from, walked, with_default}
+use Rattle.clap.specs.Walk.{Row, Rule, Text, Walk, first_of, finished, at_row, has_row, idle, more_values, nothing_held, walk, walk_from, walked, with_default}
 use Rattle.clap.specs.Takes.{default_passes, entered_passes, settle_passes, takes, turn_passes, walk_passes, is_valid}
-use Rattle.clap.specs.Simple.{App, Shape, built, entered, filled, is_simple, matches_of}
+use Rattle.clap.specs.Simple.{Shape, built, entered, filled, is_simple, matches_of}
 use Rattle.clap.specs.declared.parser.matches.ValueSource.TheVariants.{DefaultValue}
-use Rattle.clap.specs.declared.builder.value_parser.Reading.TheVariants as reading
-use Rattle.sim_words.specs.CommandLine.{command_line, json_rule, option_names, option_rule}
+use Rattle.sim_words.specs.CommandLine.{command_line, json_rule, option_names}
 use Rattle.sim_words.specs.Spelling.{ArePlainOptions, Given, IsPlainSpelling, IsPlainWord, json, name_of, plain_value, valued, value_of, words_of}
-use Rattle.sim_words.proofs.TextLemmas.{among, is_same, same}
+use Rattle.sim_words.proofs.TextLemmas.{among, is_same}
 use Rattle.sim_words.proofs.PlainWalk.{AllNew, HasFlag, HasOption, Walks, at, at_no_row, given_walks, plain_long, plain_longer, plain_short, row_given}
 
 abbrev line : Shape
@@ -179,9 +178,9 @@ module _ (command file : Text) (options : List Given) (words : List Text) (is : 
   unfolding walk_passes
   words_pass = ap (walk_passes line [] (walk_from nothing_held)) is.spelled
       ∙ ap₂ (λ (b : Bool) (w : Walk). b && (turn_passes line [] w file && walk_passes line [] (walked line.rules [] w file) (flat_map words_of options)))
-          (first_turn command is.command_word) (first_walks command is.command_word)
+      (first_turn command is.command_word) (first_walks command is.command_word)
       ∙ ap₂ (λ (b : Bool) (w : Walk). b && walk_passes line [] w (flat_map words_of options))
-          (second_turn command file is.file_word) (second_walks command file is.file_word)
+      (second_turn command file is.file_word) (second_walks command file is.file_word)
       ∙ options_walk.words_pass
 
   rows_end : finished line.rules (walk line.rules [] nothing_held words).held ≡ with_default (map row_given (all_given command file options)) (filled json_rule)
@@ -192,9 +191,9 @@ module _ (command file : Text) (options : List Given) (words : List Text) (is : 
   pub plain_is_taken : takes command_line words ≡ true
   plain_is_taken =
       ap₂ (λ (b : Bool) (w : Walk). entered_passes (built command_line) w.stopped && (b && (settle_passes line.rules line.args_override_self w.held
-          && (list_all default_passes line.rules && is_valid line (finished line.rules w.held) (is_some (entered (built command_line) w.stopped)))))) words_pass walk_ends
+      && (list_all default_passes line.rules && is_valid line (finished line.rules w.held) (is_some (entered (built command_line) w.stopped)))))) words_pass walk_ends
       ∙ ap₂ (λ (b : Bool) (rows : List Row). b && (list_all default_passes line.rules && is_valid line rows false)) options_walk.fits
-          (ap (λ (rows : List Row). fold with_default rows line.rules) options_walk.settles ∙ defaulted (map row_given (all_given command file options)))
+      (ap (λ (rows : List Row). fold with_default rows line.rules) options_walk.settles ∙ defaulted (map row_given (all_given command file options)))
       ∙ starts command file (map row_given options) false
 
   pub plain_matches : (name : Text) → first_of name (matches_of command_line words) ≡ plain_value command file options name

@@ -1,5 +1,5 @@
 -- What a walk over the options of a plain spelling gives.
-use Rattle.std.proofs.Common.{◌≡◌, ◌≢◌, ◌∙◌, ◌&&◌, ◌||◌, ◌++◌, Bool, true, false, refl, sym, subst, ap, ap₂, List, [], ◌∷◌, ℕ, bytes_eq, Option, Some, None, codes, map, append_assoc, append-nil, ne_eqb}
+use Rattle.std.proofs.Common.{◌≡◌, ◌∙◌, ◌&&◌, ◌++◌, Bool, true, false, refl, sym, subst, ap, ap₂, List, [], ◌∷◌, bytes_eq, Option, Some, None, codes, map, append_assoc, append-nil, ne_eqb}
 use Rattle.std.specs.Bool.{⊤}
 use Rattle.std.specs.List.{flat_map, fold, list_any}
 use Rattle.std.proofs.lemmas.List.Folds.{list_any-append}
@@ -183,7 +183,7 @@ module _ (s : Shape) where
           rows_after = more.rows_after;
           pending_after = more.pending_after;
           words_pass = flag_passes rows pending (flat_map words_of rest) flag passed new.0
-          ∙ ap (λ (w : Walk). walk_passes s [] w (flat_map words_of rest)) walks ∙ more.words_pass;
+              ∙ ap (λ (w : Walk). walk_passes s [] w (flat_map words_of rest)) walks ∙ more.words_pass;
           walks = ap (λ (w : Walk). fold (walked s.rules []) w (flat_map words_of rest)) walks ∙ more.walks;
           fits = more.fits;
           settles = more.settles ∙ append_assoc now (row_given json ∷ []) (map row_given rest);

@@ -1,5 +1,5 @@
 -- A number with one digit set is a power of two.
-use Rattle.std.proofs.Common.{◌≡◌, ◌≤◌, ◌+◌, ◌/◌, ◌%◌, ◌^◌, inl, inr, zero, suc, true, ℕ, arith, eq-zero-or-pos, eqb-true, le_refl, pow-suc}
+use Rattle.std.proofs.Common.{◌≡◌, ◌≤◌, ◌/◌, ◌%◌, ◌^◌, inl, inr, zero, suc, true, ℕ, arith, eq-zero-or-pos, eqb-true, le_refl, pow-suc}
 use Rattle.std.specs.Int.{is_power_of_two}
 use Rattle.std.specs.Int.Count.{ones, ones_in}
 
@@ -15,11 +15,11 @@ unfolding ones_in
 one_set zero n below one = absurd (omega (arith, one))
 one_set (suc digits) n below one = elim (eq-zero-or-pos (n % 2)) [
   | inl even ↦
-    let half = one_set digits (n / 2) (omega arith) (omega (arith, one, even)) in
-    (suc half.0, omega (arith, even, half.1, pow-suc 2 half.0))
+      let half = one_set digits (n / 2) (omega arith) (omega (arith, one, even)) in
+      (suc half.0, omega (arith, even, half.1, pow-suc 2 half.0))
   | inr odd ↦
-    let rest : n / 2 ≡ 0 = none_set digits (n / 2) (omega arith) (omega (arith, one, odd)) in
-    (0, omega (arith, odd, rest))
+      let rest : n / 2 ≡ 0 = none_set digits (n / 2) (omega arith) (omega (arith, one, odd)) in
+      (0, omega (arith, odd, rest))
 ]
 
 pub power_of_two : (n : ℕ) → is_power_of_two n ≡ true → (exponent : ℕ) × (n ≡ 2 ^ exponent)

@@ -1,6 +1,6 @@
 -- What the matches of a parse mean for the answer.
-use Rattle.std.proofs.Common.{◌≡◌, ◌≢◌, ◌∙◌, Bool, true, false, refl, sym, ap, subst, List, [], ◌∷◌, length, arith, Ok, Err, Result, true≢false, ◌==◌, inl, inr, ◌⊎◌, Option, Some, None, cond, is_ok, IfOk, string_bytes}
-use Rattle.clap.specs.Words.{App, HasMatchesOf, IsAmong, Kinds, Text, fault_of, first_of, first_value, found_of, is_simple, is_simple_and_free, matches_of, rows_of, takes}
+use Rattle.std.proofs.Common.{◌≡◌, ◌≢◌, ◌∙◌, true, refl, sym, ap, subst, List, [], ◌∷◌, length, arith, Ok, Err, Result, true≢false, Option, Some, None, cond, is_ok, IfOk, string_bytes}
+use Rattle.clap.specs.Words.{App, HasMatchesOf, IsAmong, Kinds, Text, fault_of, first_of, first_value, found_of, is_simple, is_simple_and_free, matches_of, takes}
 use Rattle.clap.proofs.WalkLemmas.{first_value-rows}
 use Rattle.clap.specs.declared.error.kind.ErrorKind.{ErrorKind}
 use Rattle.clap.specs.declared.parser.matches.ArgMatches.{ArgMatches}

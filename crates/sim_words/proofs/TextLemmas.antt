@@ -1,5 +1,5 @@
 -- What the tests on texts say.
-use Rattle.std.proofs.Common.{◌≡◌, ◌≢◌, ◌&&◌, ◌||◌, Bool, true, false, cond, refl, sym, subst, ap, true≢false, List, [], ◌∷◌, ℕ, bytes_eq, Decides}
+use Rattle.std.proofs.Common.{◌≡◌, ◌||◌, Bool, true, false, refl, sym, subst, true≢false, List, [], ◌∷◌, bytes_eq}
 use Rattle.std.specs.List.{AllByRecursion, list_any}
 use Rattle.std.proofs.lemmas.Slice.Eq.{bytes_eq-Decides}
 use Rattle.clap.specs.Words.{Text}

@@ -9,8 +9,8 @@ ghost use Rattle.sim_words.specs.Values.{number_within, power_within};
 use crate::command_line::command_line;
 use crate::request::{Command, Request, WordsFault};
 use crate::values::{beats_of, codec_of, number_within, power_within};
-use clap::{ArgMatches, Error};
 use clap::error::ErrorKind;
+use clap::{ArgMatches, Error};
 use hier_types::{Geometry, SettingName, Settings};
 use std::alloc::Global;
 
@@ -25,7 +25,13 @@ fn given_or<'a>(matches: &ArgMatches<'a>, name: &str, default: &'a str) -> &'a s
 }
 
 /// The number that is given to a name, where it is from `low` to `high`.
-fn number_or<'a>(matches: &ArgMatches<'a>, name: &str, default: &'a str, low: u32, high: u32) -> Option<u32>
+fn number_or<'a>(
+    matches: &ArgMatches<'a>,
+    name: &str,
+    default: &'a str,
+    low: u32,
+    high: u32,
+) -> Option<u32>
     ensures rule { result ≡ number_within low high (given_or (first_value (found_of matches.now)) name.now default.entry.now) }
     ensures range { IfSome result (λ n. (low ≤ n) × (n ≤ high)) }
 {

@@ -49,12 +49,18 @@ fn words_of(alloc: Global, texts: &[&str]) -> Result<Vec<String>, Fail> {
 fn reads_options(rt: HostRuntime) -> Result<(), Fail> {
     let alloc = rt.alloc();
     let texts = [
-        "demo", "7", "--l2-sets", "1024", "--json", "--codec", "fpc", "--beats", "hc",
+        "demo",
+        "7",
+        "--l2-sets",
+        "1024",
+        "--json",
+        "--codec",
+        "fpc",
+        "--beats",
+        "hc",
     ];
     let words = words_of(alloc, &texts)?;
-    let request = read_words(alloc, words.as_slice())
-        .ok()
-        .ok_or("a request")?;
+    let request = read_words(alloc, words.as_slice()).ok().ok_or("a request")?;
     assert!(rt; request.command == Command::Demo { number: 7 } && request.file.as_str() == "7");
     let settings = request.settings;
     assert!(rt; settings.json && settings.l2_sets == 1024 && settings.codec == Codec::Fpc);

@@ -4,7 +4,7 @@ use Rattle.clap.specs.Words.{App, Rule, app_of, with_rule}
 use Rattle.clap.specs.Simple.{app_of_fields, new_shape}
 use Rattle.clap.specs.declared.builder.command.Command.{Command}
 use Rattle.clap.specs.declared.builder.command.Command.TheOpen.{Command-F}
-use Rattle.sim_words.specs.CommandLine.{command_line, json_rule, option_rule, place_rule}
+use Rattle.sim_words.specs.CommandLine.{json_rule, option_rule, place_rule}
 use Rattle.sim_words.proofs.command_line.command_line.Goals as goal
 
 abbrev start : App

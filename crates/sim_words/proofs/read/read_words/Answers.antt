@@ -1,5 +1,5 @@
-use Rattle.std.proofs.Common.{◌≡◌, ◌∙◌, ap, sym, subst, map, string_bytes, List, Result, Err, inl, inr, true, []}
-use Rattle.clap.specs.Words.{App, app_of, is_simple_and_free}
+use Rattle.std.proofs.Common.{◌∙◌, ap, sym, subst, map, string_bytes, Err, inl, inr, []}
+use Rattle.clap.specs.Words.{app_of, is_simple_and_free}
 use Rattle.sim_words.specs.Requests.{Answers, AnswersAsMatched, asked}
 use Rattle.sim_words.specs.Spelling.{plain_value}
 use Rattle.sim_words.specs.declared.request.WordsFault.{WordsFault}
@@ -34,6 +34,6 @@ returns-in-Err-try_get_matches_from-clause-matched c =
       | inr among ↦ elim c.fault_of.ensures.words [
         | inl none ↦ subst (λ (fault : WordsFault). AnswersAsMatched words (Err fault)) (sym none.1) tt
         | inr usage ↦ subst (λ (fault : WordsFault). AnswersAsMatched words (Err fault)) (sym usage)
-          (fault_stated (app_of c.in-Ok.command) c.in-Ok.ensures words _ among)
+            (fault_stated (app_of c.in-Ok.command) c.in-Ok.ensures words _ among)
       ]
     ]

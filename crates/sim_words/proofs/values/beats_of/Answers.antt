@@ -1,4 +1,4 @@
-use Rattle.std.proofs.Common.{◌≡◌, rules, ◌≤◌, sym, subst, arith, map, length, List, SomeIff}
+use Rattle.std.proofs.Common.{◌≡◌, rules, subst, map, List, SomeIff}
 use Rattle.hier_types.specs.Beats.{IsBeatWord}
 use Rattle.hier_types.specs.declared.beats.Beat.{Beat}
 use Rattle.sim_words.specs.Values.{beat_of}
