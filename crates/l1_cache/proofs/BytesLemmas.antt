@@ -1,15 +1,15 @@
 -- The bytes of a level, and the held line among them.
-use Rattle.std.proofs.Common.{◌≡◌, ◌<◌, ◌≤◌, ◌+◌, ◌-◌, ◌*◌, ◌/◌, ◌%◌, ℕ, Bool, true, false, List, [], ◌∷◌, Some, None, length, length-set, set, get_or, refl, sym, ap, ◌∙◌, subst, arith, Option}
+use Rattle.std.proofs.Common.{◌≡◌, ◌<◌, ◌-◌, ◌*◌, ◌%◌, ℕ, List, [], ◌∷◌, Some, length, length-set, set, get_or, refl, sym, ap, ◌∙◌, subst, arith, Option}
 use Rattle.std.specs.List.{slice_get}
-use Rattle.std.specs.Option.{IfSome, option_map, MatchOption}
-use Rattle.std.proofs.lemmas.Option.{get_or_from_slice_get, slice_get-get_or}
-use Rattle.hier_types.specs.Lines.{AreLines, flatten}
+use Rattle.std.specs.Option.{IfSome}
+use Rattle.std.proofs.lemmas.Option.{get_or_from_slice_get}
+use Rattle.hier_types.specs.Lines.{flatten}
 use Rattle.hier_types.specs.Span.{Span, first, Has, line_at}
 use Rattle.hier_types.proofs.LineLemmas.{length-flatten, byte_of_line, flatten-set, line_of_lines}
 use Rattle.recency.specs.declared.entry.Entry.{Entry}
 use Rattle.recency.specs.Kept.{Kept, overwritten, poked}
-use Rattle.recency.specs.Levels.{set_of, with_set, kept_of, bytes_or, overlay, IsSound, IsFirst, FirstHas}
-use Rattle.recency.proofs.LevelLemmas.{length-overlay, slice_get-overlay, whole_overlay}
+use Rattle.recency.specs.Levels.{set_of, with_set, overlay, IsFirst}
+use Rattle.recency.proofs.LevelLemmas.{length-overlay, whole_overlay}
 use Rattle.recency.proofs.FirstLemmas.{first_shown, over_sound, over_written, over_first}
 use Rattle.l1_cache.specs.FirstLevel.{IsLevel}
 

@@ -1,5 +1,5 @@
 -- The steps of a touch, over all sets.
-use Rattle.std.proofs.Common.{◌≡◌, ◌≢◌, ◌<◌, ◌≤◌, ◌*◌, ◌%◌, ℕ, Bool, true, false, List, [], ◌∷◌, Option, Some, None, Result, Ok, Err, length, length-set, set, get_or, refl, sym, ap, ◌∙◌, subst, arith, nat_lt, eqb, if◌then◌else◌}
+use Rattle.std.proofs.Common.{◌≡◌, ◌<◌, ◌%◌, ℕ, true, false, List, [], ◌∷◌, Option, Some, None, Ok, Err, length, length-set, set, refl, sym, ap, ◌∙◌, subst, nat_lt, eqb, if◌then◌else◌}
 use Rattle.std.specs.List.{slice_get}
 use Rattle.std.specs.Option.{is_some, IfSome, option_eq}
 use Rattle.std.proofs.lemmas.Bool.{eq-eqb, eqb-true}
@@ -7,20 +7,19 @@ use Rattle.hier_types.specs.declared.counts.L1Counts.{L1Counts}
 use Rattle.hier_types.specs.declared.faults.NoSpace.{NoSpace}
 use Rattle.hier_types.specs.Calls.{Answer, Call, Read, Write}
 use Rattle.hier_types.specs.Causes.{raised}
-use Rattle.hier_types.specs.Lines.{AreLines}
 use Rattle.hier_types.proofs.LineLemmas.{lines-set, line_of_lines}
 use Rattle.hier_types.specs.Span.{Span}
 use Rattle.recency.specs.declared.entry.Entry.{Entry}
 use Rattle.recency.specs.Uses.{last_of}
 use Rattle.recency.specs.Kept.{Kept, with_lines, has_room, entry_of, touched, touched_by, clean_last, put_in, dirty_victim, if_dirty, clean_entry}
-use Rattle.recency.specs.Levels.{set_at, set_of, with_set, kept_of, overlay, IsGood, IsGoodEntry, IsSound, IsFirst}
-use Rattle.recency.specs.Steps.{Changes, with_clean}
+use Rattle.recency.specs.Levels.{set_at, set_of, with_set, kept_of, overlay, IsGoodEntry, IsSound, IsFirst}
+use Rattle.recency.specs.Steps.{with_clean}
 use Rattle.recency.proofs.FlushLemmas.{back_sound, clean_keeps_first}
 use Rattle.recency.proofs.ListLemmas.{slice_get-set_other, set-set}
 use Rattle.recency.proofs.EntryLemmas.{at_front, entry_of-is, good_entry, last_entry, good_clean_last, good_elsewhere, entry_of-clean_none, last_of-clean_last}
-use Rattle.recency.proofs.LevelLemmas.{set_at-same, sound_step, overlay_step, kept_some, touch_sound, touch_same, shown_clean_last, shown_put_in, good_put_in, room_cases, unchanged, in_range}
+use Rattle.recency.proofs.LevelLemmas.{set_at-same, sound_step, overlay_step, kept_some, touch_sound, shown_clean_last, shown_put_in, good_put_in, room_cases, unchanged, in_range}
 use Rattle.l1_cache.specs.FirstLevel.{IsLevel}
-use Rattle.l1_cache.specs.Touches.{Brings, Misses, TouchesSet, Steps, counted}
+use Rattle.l1_cache.specs.Touches.{Brings, Misses, TouchesSet, Steps}
 
 -- the most recent line is touched again
 pub touched_first : (sets : List Kept) (line : ℕ) → line % length sets < length sets → IsFirst sets line → sets ≡ with_set sets line (touched (set_of sets line).lines line)
@@ -51,10 +50,6 @@ touched_none sets line inside none = ap (with_set sets line) (same (kept_of sets
     same : (kept : Option Entry) → is_some kept ≡ false → touched_by kept (set_of sets line).lines line ≡ (set_of sets line).lines
     same None is = refl
     same (Some e) is = absurd (let k = is in cc)
-
-pub not_kept : (kept : Option Entry) → is_some kept ≡ false → kept ≡ None
-not_kept None is = refl
-not_kept (Some e) is = absurd (let k = is in cc)
 
 touched_front : (es : List Entry) (line : ℕ) (e : Entry) → entry_of es line ≡ Some e → slice_get (touched es line) 0 ≡ Some e
 touched_front es line e is = rw is refl
@@ -141,11 +136,6 @@ cleaned_ready k =
     nothing None is = ap if_dirty is
     nothing (Some e) is = ap if_dirty is ∙ ap (λ b. if b then Some e else None) (last_of-clean_last k.lines e is)
 
--- a miss in a set that has nothing to write
-pub miss_clean : (sets : List Kept) (counts : L1Counts) (line : ℕ) (result : Answer) (new : List Kept) (now : L1Counts) (calls : List Call)
-    → dirty_victim (set_of sets line) ≡ None → Steps Brings sets counts line result new now calls → Steps Misses sets counts line result new now calls
-miss_clean sets counts line result new now calls none s = record { change = record { after = s.change.after; step = rw none s.change.step; only = s.change.only }; counts_are = s.counts_are }
-
 -- the write of the victim was refused
 pub miss_refused : (sets : List Kept) (counts : L1Counts) (line : ℕ) (e : Entry) (n : NoSpace) → line % length sets < length sets
     → dirty_victim (set_of sets line) ≡ Some e → Steps Misses sets counts line (Err n) sets counts (Write e.line e.bytes (Err n) ∷ [])
@@ -177,11 +167,6 @@ absent_cleaned sets line inside none = rw (length-set, set_at-same sets (line % 
 
 pub ready_cleaned : (sets : List Kept) (line : ℕ) → line % length sets < length sets → dirty_victim (set_of (with_set sets line (clean_last (set_of sets line).lines)) line) ≡ None
 ready_cleaned sets line inside = rw (length-set, set_at-same sets (line % length sets) (with_lines (set_of sets line) (clean_last (set_of sets line).lines)) inside) (cleaned_ready (set_of sets line))
-
--- what a touch of a line that is not kept does
-pub touch_miss : (sets : List Kept) (counts : L1Counts) (line : ℕ) (result : Answer) (new : List Kept) (now : L1Counts) (calls : List Call)
-    → kept_of sets line ≡ None → Steps Misses sets counts line result new now calls → Steps TouchesSet sets counts line result new now calls
-touch_miss sets counts line result new now calls none s = record { change = record { after = s.change.after; step = rw none s.change.step; only = s.change.only }; counts_are = s.counts_are }
 
 -- the whole level after a victim was written below, with nothing held
 pub clean_level : {lines : List (List ℕ)} {sets : List Kept} {held : Option ℕ} {span : Span} (level : IsLevel lines sets held span) (line : ℕ) (e : Entry) → dirty_victim (set_of sets line) ≡ Some e → held ≡ None

@@ -1,5 +1,5 @@
 -- What a touch, a read and a write do to the sets and the counts, with the calls that they make below.
-use Rattle.std.specs.Prelude.{◌≡◌, ◌%◌, ℕ, List, [], ◌∷◌, Option, Result, Ok, Err, MatchOption, length}
+use Rattle.std.specs.Prelude.{◌≡◌, ℕ, List, [], ◌∷◌, Result, Ok, Err, MatchOption}
 use Rattle.hier_types.specs.declared.counts.L1Counts.{L1Counts}
 use Rattle.hier_types.specs.declared.faults.NoSpace.{NoSpace}
 use Rattle.hier_types.specs.Calls.{Answer, Call, Read, Write}

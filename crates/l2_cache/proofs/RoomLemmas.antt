@@ -1,6 +1,5 @@
 -- The room of a set, after each of its steps.
-use Rattle.std.proofs.Common.{◌≡◌, ◌≢◌, ◌≤◌, ◌<◌, ◌+◌, ◌-◌, ◌*◌, ◌/◌, ◌%◌, ◌==◌, ℕ, suc, Bool, true, false, List, [], ◌∷◌, Option, Some, None, length, length-set, set, get_or, replicate, refl, sym, ap, ◌∙◌, subst, arith, if◌then◌else◌, get_or-set_same, get_or-set_other, nat_lt, nat_le, ◌&&◌}
-use Rattle.std.specs.List.{slice_get}
+use Rattle.std.proofs.Common.{◌≡◌, ◌≤◌, ◌<◌, ◌+◌, ◌-◌, ◌*◌, ◌%◌, ◌==◌, ℕ, suc, true, false, List, [], ◌∷◌, Option, Some, None, length, length-set, set, get_or, refl, sym, ap, ◌∙◌, subst, arith, if◌then◌else◌, get_or-set_same, get_or-set_other}
 use Rattle.std.specs.Option.{IfNone}
 use Rattle.std.proofs.lemmas.Bool.Decides.{nat_tests}
 use Rattle.std.proofs.lemmas.List.{set-get_or}
@@ -12,7 +11,7 @@ use Rattle.recency.specs.Kept.{Kept, with_lines, entry_of, without, touched, tou
 use Rattle.recency.specs.Levels.{set_at, set_of, with_set, kept_of}
 use Rattle.recency.proofs.UseLemmas.{by_eq}
 use Rattle.recency.proofs.LevelLemmas.{set_at-same, set_at-other}
-use Rattle.l2_cache.specs.Room.{segments, segments_sum, has_space, leaver}
+use Rattle.l2_cache.specs.Room.{segments, segments_sum, has_space}
 use Rattle.l2_cache.specs.SecondLevel.{IsMeasured}
 
 module _ (size : List ℕ → ℕ) where
@@ -23,14 +22,16 @@ module _ (size : List ℕ → ℕ) where
   pub sum-split : (es : List Entry) (line : ℕ) (e : Entry) → entry_of es line ≡ Some e → segments size e.bytes + segments_sum size (without es line) ≡ segments_sum size es
   sum-split [] line e is = absurd (let h = is in cc)
   sum-split (f ∷ es) line e is = elim (f.line == line) as (λ t. (if t then Some f else entry_of es line) ≡ Some e → segments size e.bytes + segments_sum size (if t then es else f ∷ without es line) ≡ segments_sum size (f ∷ es)) [
-      true ↦ λ h. (let same : f ≡ e = cc in ap (λ (z : Entry). segments size z.bytes + segments_sum size es) (sym same))
-    | false ↦ λ h. (let rest = sum-split es line e h in omega arith) ] is
+    | true ↦ λ h. (let same : f ≡ e = cc in ap (λ (z : Entry). segments size z.bytes + segments_sum size es) (sym same))
+    | false ↦ λ h. (let rest = sum-split es line e h in omega arith)
+  ] is
 
   pub sum-absent : (es : List Entry) (line : ℕ) → entry_of es line ≡ None → segments_sum size (without es line) ≡ segments_sum size es
   sum-absent [] line is = refl
   sum-absent (f ∷ es) line is = elim (f.line == line) as (λ t. (if t then Some f else entry_of es line) ≡ None → segments_sum size (if t then es else f ∷ without es line) ≡ segments_sum size (f ∷ es)) [
-      true ↦ λ h. absurd (let k = h in cc)
-    | false ↦ λ h. ap (λ n. segments size f.bytes + n) (sum-absent es line h) ] is
+    | true ↦ λ h. absurd (let k = h in cc)
+    | false ↦ λ h. ap (λ n. segments size f.bytes + n) (sum-absent es line h)
+  ] is
 
   pub sum_clean : (es : List Entry) (line : ℕ) → segments_sum size (clean_in es line) ≡ segments_sum size es
   sum_clean [] line = refl
@@ -50,14 +51,16 @@ length_without (e ∷ es) line = let rest = length_without es line in elim (e.li
 pub length-split : (es : List Entry) (line : ℕ) (e : Entry) → entry_of es line ≡ Some e → suc (length (without es line)) ≡ length es
 length-split [] line e is = absurd (let h = is in cc)
 length-split (f ∷ es) line e is = elim (f.line == line) as (λ t. (if t then Some f else entry_of es line) ≡ Some e → suc (length (if t then es else f ∷ without es line)) ≡ length (f ∷ es)) [
-    true ↦ λ h. refl
-  | false ↦ λ h. (let rest = length-split es line e h in omega arith) ] is
+  | true ↦ λ h. refl
+  | false ↦ λ h. (let rest = length-split es line e h in omega arith)
+] is
 
 pub length-absent : (es : List Entry) (line : ℕ) → entry_of es line ≡ None → length (without es line) ≡ length es
 length-absent [] line is = refl
 length-absent (f ∷ es) line is = elim (f.line == line) as (λ t. (if t then Some f else entry_of es line) ≡ None → length (if t then es else f ∷ without es line) ≡ length (f ∷ es)) [
-    true ↦ λ h. absurd (let k = h in cc)
-  | false ↦ λ h. ap suc (length-absent es line h) ] is
+  | true ↦ λ h. absurd (let k = h in cc)
+  | false ↦ λ h. ap suc (length-absent es line h)
+] is
 
 pub length_touched : (es : List Entry) (line : ℕ) → length (touched es line) ≡ length es
 length_touched es line = elim (entry_of es line) as (λ o. entry_of es line ≡ o → length (touched_by o es line) ≡ length es) [ None ↦ λ h. refl | Some e ↦ λ h. length-split es line e h ] refl
@@ -69,12 +72,6 @@ pub last_none : (es : List Entry) → last_of es ≡ None → es ≡ []
 last_none [] is = refl
 last_none (e ∷ []) is = absurd (let k = is in cc)
 last_none (e ∷ f ∷ es) is = absurd (let k : f ∷ es ≡ [] = last_none (f ∷ es) is in cc)
-
-pub space_empty : (size : List ℕ → ℕ) (tags : ℕ) (bytes : List ℕ) (es : List Entry) → segments size bytes ≤ 8 → 2 ≤ tags → last_of es ≡ None → has_space size tags bytes es ≡ true
-space_empty size tags bytes es most two none = rw (last_none es none) (alone size tags bytes most two)
-  where
-  alone : (size : List ℕ → ℕ) (tags : ℕ) (bytes : List ℕ) → segments size bytes ≤ 8 → 2 ≤ tags → has_space size tags bytes [] ≡ true
-  alone size tags bytes most two = grind (arith, nat_tests)
 
 pub if_some : (found : Option Entry) (P : Type 0) → (found ≡ None → ⊥) → IfNone found P
 if_some None P some = absurd (some refl)
@@ -93,32 +90,32 @@ module _ {codec : Codec} {tags : ℕ} {sets : List Kept} {used : List ℕ} (meas
   -- the line's set after a step, with the segments that its lines take then
   pub measured_step : (es : List Entry) (sum : ℕ) → length es ≤ tags → sum ≡ segments_sum (size_under codec) es → sum ≤ 4 * tags → IsMeasured codec tags (with_set sets line es) (set used (line % length sets) sum)
   measured_step es sum short is low = record {
-      some = rw length-set measured.some;
-      two = measured.two;
-      few = measured.few;
-      len = rw (length-set, length-set) measured.len;
-      ways = λ i lt. by_eq (line % length sets) i
+    some = rw length-set measured.some;
+    two = measured.two;
+    few = measured.few;
+    len = rw (length-set, length-set) measured.len;
+    ways = λ i lt. by_eq (line % length sets) i
         (λ y. subst (λ j. (set_at (with_set sets line es) j).ways ≡ tags) y (ap (λ (k : Kept). k.ways) (set_at-same sets (line % length sets) (with_lines (set_of sets line) es) home) ∙ measured.ways (line % length sets) home))
         (λ apart. ap (λ (k : Kept). k.ways) (set_at-other sets (line % length sets) i (with_lines (set_of sets line) es) apart) ∙ measured.ways i (rw length-set at lt));
-      tagged = λ i lt. by_eq (line % length sets) i
+    tagged = λ i lt. by_eq (line % length sets) i
         (λ y. subst (λ j. length (set_at (with_set sets line es) j).lines ≤ tags) y (rw (set_at-same sets (line % length sets) (with_lines (set_of sets line) es) home) short))
         (λ apart. rw (set_at-other sets (line % length sets) i (with_lines (set_of sets line) es) apart) (measured.tagged i (rw length-set at lt)));
-      taken = λ i lt. by_eq (line % length sets) i
+    taken = λ i lt. by_eq (line % length sets) i
         (λ y. subst (λ j. get_or (set used (line % length sets) sum) j 0 ≡ segments_sum (size_under codec) (set_at (with_set sets line es) j).lines) y
-          (get_or-set_same used (line % length sets) sum 0 used_within ∙ is ∙ sym (ap (λ (k : Kept). segments_sum (size_under codec) k.lines) (set_at-same sets (line % length sets) (with_lines (set_of sets line) es) home))))
+        (get_or-set_same used (line % length sets) sum 0 used_within ∙ is ∙ sym (ap (λ (k : Kept). segments_sum (size_under codec) k.lines) (set_at-same sets (line % length sets) (with_lines (set_of sets line) es) home))))
         (λ apart. get_or-set_other used (line % length sets) i sum 0 (λ y. apart (sym y)) ∙ measured.taken i (rw length-set at lt)
-          ∙ sym (ap (λ (k : Kept). segments_sum (size_under codec) k.lines) (set_at-other sets (line % length sets) i (with_lines (set_of sets line) es) apart)));
-      fits = λ i lt. by_eq (line % length sets) i
+        ∙ sym (ap (λ (k : Kept). segments_sum (size_under codec) k.lines) (set_at-other sets (line % length sets) i (with_lines (set_of sets line) es) apart)));
+    fits = λ i lt. by_eq (line % length sets) i
         (λ y. subst (λ j. segments_sum (size_under codec) (set_at (with_set sets line es) j).lines ≤ 4 * tags) y
-          (rw (set_at-same sets (line % length sets) (with_lines (set_of sets line) es) home) (subst (λ n. n ≤ 4 * tags) is low)))
+        (rw (set_at-same sets (line % length sets) (with_lines (set_of sets line) es) home) (subst (λ n. n ≤ 4 * tags) is low)))
         (λ apart. rw (set_at-other sets (line % length sets) i (with_lines (set_of sets line) es) apart) (measured.fits i (rw length-set at lt)));
-    }
+  }
 
   -- a step that leaves the number of lines and their segments
   pub measured_kept : (es : List Entry) → length es ≡ length (set_of sets line).lines → segments_sum (size_under codec) es ≡ segments_sum (size_under codec) (set_of sets line).lines → IsMeasured codec tags (with_set sets line es) used
   measured_kept es same sum =
-    let short : length es ≤ tags = rw same (measured.tagged (line % length sets) home) in
-    subst (λ u. IsMeasured codec tags (with_set sets line es) u) (set-get_or used (line % length sets) 0)
+      let short : length es ≤ tags = rw same (measured.tagged (line % length sets) home) in
+      subst (λ u. IsMeasured codec tags (with_set sets line es) u) (set-get_or used (line % length sets) 0)
       (measured_step es (get_or used (line % length sets) 0) short (used_is ∙ sym sum) (rw used_is (measured.fits (line % length sets) home)))
 
   -- the others of a line that is kept, and of one that is not
@@ -130,31 +127,31 @@ module _ {codec : Codec} {tags : ℕ} {sets : List Kept} {used : List ℕ} (meas
 
   pub others_few : segments_sum (size_under codec) (without (set_of sets line).lines line) ≤ 128
   others_few =
-    let a = sum_without (size_under codec) (set_of sets line).lines line in
-    let b = measured.fits (line % length sets) home in
-    let c = measured.few in
-    omega arith
+      let a = sum_without (size_under codec) (set_of sets line).lines line in
+      let b = measured.fits (line % length sets) home in
+      let c = measured.few in
+      omega arith
 
   -- another line has left
   pub taken_out : (e : Entry) → entry_of (set_of sets line).lines e.line ≡ Some e
-    → IsMeasured codec tags (with_set sets line (without (set_of sets line).lines e.line)) (set used (line % length sets) (get_or used (line % length sets) 0 - segments (size_under codec) e.bytes))
+      → IsMeasured codec tags (with_set sets line (without (set_of sets line).lines e.line)) (set used (line % length sets) (get_or used (line % length sets) 0 - segments (size_under codec) e.bytes))
   taken_out e kept =
-    let split = sum-split (size_under codec) (set_of sets line).lines e.line e kept in
-    let is = used_is in
-    let a = length_without (set_of sets line).lines e.line in
-    let b = measured.tagged (line % length sets) home in
-    let c = measured.fits (line % length sets) home in
-    measured_step (without (set_of sets line).lines e.line) (get_or used (line % length sets) 0 - segments (size_under codec) e.bytes) (omega arith) (omega arith) (omega arith)
+      let split = sum-split (size_under codec) (set_of sets line).lines e.line e kept in
+      let is = used_is in
+      let a = length_without (set_of sets line).lines e.line in
+      let b = measured.tagged (line % length sets) home in
+      let c = measured.fits (line % length sets) home in
+      measured_step (without (set_of sets line).lines e.line) (get_or used (line % length sets) 0 - segments (size_under codec) e.bytes) (omega arith) (omega arith) (omega arith)
 
   pub takes_less : (e : Entry) → entry_of (set_of sets line).lines e.line ≡ Some e → segments (size_under codec) e.bytes ≤ get_or used (line % length sets) 0
   takes_less e kept = let split = sum-split (size_under codec) (set_of sets line).lines e.line e kept in let is = used_is in omega arith
 
   -- an entry was put in front
   pub put_before : (e : Entry) (others : ℕ) → others ≡ segments_sum (size_under codec) (without (set_of sets line).lines line) → has_space (size_under codec) (set_of sets line).ways e.bytes (without (set_of sets line).lines line) ≡ true
-    → IsMeasured codec tags (with_set sets line (e ∷ without (set_of sets line).lines line)) (set used (line % length sets) (others + segments (size_under codec) e.bytes))
+      → IsMeasured codec tags (with_set sets line (e ∷ without (set_of sets line).lines line)) (set used (line % length sets) (others + segments (size_under codec) e.bytes))
   put_before e others is room =
-    let space = space_left (size_under codec) (set_of sets line).ways e.bytes (without (set_of sets line).lines line) room in
-    let few = space.0 in
-    let low = space.1 in
-    let w : (set_of sets line).ways ≡ tags = measured.ways (line % length sets) home in
-    measured_step (e ∷ without (set_of sets line).lines line) (others + segments (size_under codec) e.bytes) (omega arith) (omega arith) (omega arith)
+      let space = space_left (size_under codec) (set_of sets line).ways e.bytes (without (set_of sets line).lines line) room in
+      let few = space.0 in
+      let low = space.1 in
+      let w : (set_of sets line).ways ≡ tags = measured.ways (line % length sets) home in
+      measured_step (e ∷ without (set_of sets line).lines line) (others + segments (size_under codec) e.bytes) (omega arith) (omega arith) (omega arith)

@@ -1,5 +1,5 @@
 -- What reads, writes and turns of the cleaner do to the sets and the counts, with the calls that they make below.
-use Rattle.std.specs.Prelude.{◌≡◌, ◌+◌, ◌==◌, ℕ, Bool, true, List, [], ◌∷◌, ◌++◌, Option, Some, None, Result, Ok, Err, length, if◌then◌else◌, MatchOption, MatchResult, MatchBool}
+use Rattle.std.specs.Prelude.{◌≡◌, ◌+◌, ◌==◌, ℕ, Bool, true, List, [], ◌∷◌, ◌++◌, Some, None, Result, Ok, Err, if◌then◌else◌, MatchOption, MatchResult, MatchBool}
 use Rattle.hier_types.specs.declared.counts.L2Counts.{L2Counts}
 use Rattle.hier_types.specs.declared.faults.NoSpace.{NoSpace}
 use Rattle.hier_types.specs.Calls.{Answer, Call, Read, Write}
@@ -34,8 +34,8 @@ pub record MakesRoom (size : List ℕ → ℕ) (bytes : List ℕ) (set : Kept) (
   pub gone : List Entry
   pub leave : Leave size bytes set line gone after
   pub end : MatchResult result
-    (λ _. (leaver size (with_lines set after) line bytes ≡ None) × (calls ≡ written gone))
-    (λ refusal. Stays size bytes (with_lines set after) line refusal gone calls)
+      (λ _. (leaver size (with_lines set after) line bytes ≡ None) × (calls ≡ written gone))
+      (λ refusal. Stays size bytes (with_lines set after) line refusal gone calls)
 
 -- the entry in front of its set, and an older one of its line no more
 abbrev pub in_front : List Kept → Entry → List Kept
@@ -58,7 +58,7 @@ ReadMisses size sets line answer new calls = ⊥
 abbrev pub ReadsSecond : (List ℕ → ℕ) → List Kept → ℕ → Result (List ℕ) NoSpace → List Kept → List Call → Type 0
 ReadsSecond size sets line answer new calls =
     MatchOption (kept_of sets line) (ReadMisses size sets line answer new calls)
-      (λ e. (calls ≡ []) × (answer ≡ Ok e.bytes) × (new ≡ with_set sets line (touched (set_of sets line).lines line)))
+    (λ e. (calls ≡ []) × (answer ≡ Ok e.bytes) × (new ≡ with_set sets line (touched (set_of sets line).lines line)))
 
 -- a write, which needs no read below
 abbrev pub WritesSecond : (List ℕ → ℕ) → List Kept → ℕ → List ℕ → Answer → List Kept → List Call → Type 0

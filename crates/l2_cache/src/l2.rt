@@ -52,7 +52,13 @@ fn count(calls: &mut u64, hits: &mut u64, hit: bool)
 impl<B: Layer> L2<B> {
     /// No line is kept, and the cleaner stands at set 0. There are `sets` sets, a power of two up to 4,096, with the room
     /// of `ways` whole lines each, 1 to 16, and twice as many tags. Where no memory is left, the layer is dropped.
-    pub fn new(alloc: Global, below: B, codec: Codec, sets: u32, ways: u32) -> Result<L2<B>, NoMemory>
+    pub fn new(
+        alloc: Global,
+        below: B,
+        codec: Codec,
+        sets: u32,
+        ways: u32,
+    ) -> Result<L2<B>, NoMemory>
         requires sets { IsPowerOfTwo 4096 sets }
         requires ways { IsWithin 1 16 ways }
         ensures { IfOk result (λ level. level ≡ record { below = below; codec = codec; sets = replicate sets (record { ways = 2 * ways; lines = [] }); cursor = 0; counts = record { reads = 0; read_hits = 0; writes = 0; write_hits = 0 } }) }

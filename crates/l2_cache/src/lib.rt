@@ -6,6 +6,8 @@
 mod clean;
 mod l2;
 mod room_sets;
+#[cfg(test)]
+mod tests;
 
 pub use clean::Clean;
 pub use l2::L2;

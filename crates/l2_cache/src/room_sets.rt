@@ -62,7 +62,12 @@ struct Others {
 impl RoomSets {
     /// Sets with no line: `sets` of them, a power of two up to 4,096, with the room of `ways` whole lines, 1 to 16, and
     /// twice as many tags.
-    pub(crate) fn new(alloc: Global, codec: Codec, sets: u32, ways: u32) -> Result<RoomSets, NoMemory>
+    pub(crate) fn new(
+        alloc: Global,
+        codec: Codec,
+        sets: u32,
+        ways: u32,
+    ) -> Result<RoomSets, NoMemory>
         requires sets { IsPowerOfTwo 4096 sets }
         requires ways { IsWithin 1 16 ways }
         ensures { IfOk result (λ made. made ≡ record { codec = codec; sets = replicate sets (record { ways = 2 * ways; lines = [] }) }) }

@@ -1,2 +1,4 @@
 pub mod Layout
 pub mod PagePlan
+pub mod Pages
+pub mod Sizes

@@ -8,5 +8,5 @@ mod least;
 #[cfg(test)]
 mod tests;
 
-pub use layout::{TARGETS, exceptions};
+pub use layout::{TARGETS, encoded, exceptions};
 pub use least::{PagePlan, plan, plan_with, sizes_of};

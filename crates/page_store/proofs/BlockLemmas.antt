@@ -8,7 +8,8 @@ use Rattle.buddy_frames.proofs.MoveLemmas.{AreApart-swap}
 use Rattle.page_plan.specs.declared.least.PagePlan.{PagePlan}
 use Rattle.page_store.specs.declared.desc.Desc.{Desc}
 use Rattle.page_store.specs.declared.desc.Desc.TheVariants.{Zero}
-use Rattle.page_store.specs.PageBlocks.{block_of, block_at, order_of, IsAtPlan, IsNewBlock, moved, Outgrows, Settles, LacksRoom, IsIn, AreSound, IsFreeFor}
+use Rattle.page_plan.specs.Sizes.{order_of}
+use Rattle.page_store.specs.PageBlocks.{block_of, block_at, IsAtPlan, IsNewBlock, moved, Outgrows, Settles, LacksRoom, IsIn, AreSound, IsFreeFor}
 use Rattle.page_store.specs.Moves.{IsApartFrom, HasNoneBut, Moves}
 
 -- a fact of the value that there is

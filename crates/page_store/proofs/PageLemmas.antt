@@ -7,7 +7,8 @@ use Rattle.std.proofs.lemmas.Option.{slice_get-map, slice_get-get_or, slice_get_
 use Rattle.hier_types.proofs.TableLemmas.{length-tabulate, get_or-tabulate}
 use Rattle.hier_types.specs.declared.settings.Codec.{Codec}
 use Rattle.page_plan.specs.PagePlan.{plan_of}
-use Rattle.page_store.specs.Pages.{page_of, pages_of, plans_of, with_page}
+use Rattle.page_plan.specs.Pages.{page_of, pages_of, plans_of}
+use Rattle.page_store.specs.Pages.{with_page}
 
 -- a write in the page
 pub page_of-set : (lines : List (List ℕ)) (i : ℕ) (x : List ℕ) → page_of (set lines i x) (i / 64) ≡ set (page_of lines (i / 64)) (i % 64) x

@@ -11,9 +11,9 @@ use Rattle.page_plan.specs.PagePlan.{IsPlan, plan_of}
 use Rattle.page_plan.proofs.PlanLemmas.{IsPlan-plan_of}
 use Rattle.page_store.specs.declared.desc.Desc.{Desc}
 use Rattle.page_store.specs.declared.desc.Desc.TheVariants.{Zero, Packed, Raw}
-use Rattle.page_store.specs.Pages.{pages_of, plans_of}
+use Rattle.page_plan.specs.Pages.{pages_of, plans_of}
 use Rattle.page_store.specs.PageBlocks.{IsAtPlan}
-use Rattle.page_store.specs.Sizes.{has_order, is_zero, block_bytes, exceptions_in, bytes_at, encoded_by, encoded_in, sizes_of_memory}
+use Rattle.page_plan.specs.Sizes.{has_order, is_zero, block_bytes, exceptions_in, bytes_at, encoded_by, encoded_in, sizes_of_memory}
 use Rattle.page_store.specs.KeptSizes.{has_none, has_block, exceptions_kept, encoded_kept, sum_kept, totals_kept}
 use Rattle.page_store.proofs.ListLemmas.{sum_by-map}
 

@@ -21,10 +21,12 @@ use Rattle.page_plan.specs.PagePlan.{plan_of}
 use Rattle.page_plan.proofs.PlanLemmas.{IsPlan-plan_of, only_plan}
 use Rattle.page_store.specs.declared.desc.Desc.{Desc}
 use Rattle.page_store.specs.declared.desc.Desc.TheVariants.{Zero}
-use Rattle.page_store.specs.Pages.{page_of, with_page, lines_of}
-use Rattle.page_store.specs.PageBlocks.{order_of, block_of, block_at, moved, IsNewBlock, IsAtPlan, AreSound, Settles, LacksRoom}
+use Rattle.page_plan.specs.Pages.{page_of}
+use Rattle.page_store.specs.Pages.{with_page, lines_of}
+use Rattle.page_plan.specs.Sizes.{order_of}
+use Rattle.page_store.specs.PageBlocks.{block_of, block_at, moved, IsNewBlock, IsAtPlan, AreSound, Settles, LacksRoom}
 use Rattle.page_store.specs.Store.{Store, HasZero, IsSound, AreSizes, IsKept}
-use Rattle.page_store.specs.Sizes.{sizes_of_memory}
+use Rattle.page_plan.specs.Sizes.{sizes_of_memory}
 use Rattle.page_store.specs.KeptSizes.{totals_kept}
 use Rattle.page_store.specs.Calls.{Refused, Rewrites, PlacesPage}
 use Rattle.page_store.proofs.MoveLemmas.{kept_block, kept_units}

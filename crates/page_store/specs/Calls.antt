@@ -5,8 +5,10 @@ use Rattle.hier_types.specs.Causes.{raised}
 use Rattle.hier_types.specs.declared.counts.PageCounts.{PageCounts}
 use Rattle.hier_types.specs.declared.faults.NoSpace.{NoSpace}
 use Rattle.page_plan.specs.PagePlan.{plan_of}
-use Rattle.page_store.specs.Pages.{page_of, with_page, lines_of}
-use Rattle.page_store.specs.PageBlocks.{block_at, order_of, Outgrows, Settles}
+use Rattle.page_plan.specs.Pages.{page_of}
+use Rattle.page_store.specs.Pages.{with_page, lines_of}
+use Rattle.page_plan.specs.Sizes.{order_of}
+use Rattle.page_store.specs.PageBlocks.{block_at, Outgrows, Settles}
 use Rattle.page_store.specs.Store.{Store}
 use Rattle.page_store.specs.Crowds.{Crowded, Tight}
 

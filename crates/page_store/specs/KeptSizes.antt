@@ -5,7 +5,7 @@ use Rattle.hier_types.specs.declared.counts.Totals.{Totals}
 use Rattle.page_plan.specs.Layout.{exceptions_of}
 use Rattle.page_store.specs.declared.desc.Desc.{Desc}
 use Rattle.page_store.specs.declared.desc.Desc.TheVariants.{Zero, Packed, Raw}
-use Rattle.page_store.specs.Sizes.{bytes_at}
+use Rattle.page_plan.specs.Sizes.{bytes_at}
 
 -- a page has no block
 abbrev pub has_none : Desc → Bool

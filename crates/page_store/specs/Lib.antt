@@ -4,5 +4,4 @@ pub mod Moves
 pub mod Store
 pub mod Crowds
 pub mod Calls
-pub mod Sizes
 pub mod KeptSizes

@@ -4,6 +4,7 @@ use Rattle.std.specs.Option.{option_and_then}
 use Rattle.buddy_frames.specs.Units.{Place, place_at, past, in_use, IsPlace, IsUsedPlace, IsChoice, AreApart, taken, given}
 use Rattle.page_plan.specs.declared.least.PagePlan.{PagePlan}
 use Rattle.page_plan.specs.declared.least.PagePlan.TheVariants as plan
+use Rattle.page_plan.specs.Sizes.{order_of}
 use Rattle.page_store.specs.declared.desc.Desc.{Desc}
 use Rattle.page_store.specs.declared.desc.Desc.TheVariants.{Zero, Packed, Raw}
 
@@ -16,12 +17,6 @@ block_of (Raw block) = Some block
 -- the block of the page of a number
 abbrev pub block_at : List Desc → ℕ → Option Place
 block_at descriptors page = option_and_then block_of (slice_get descriptors page)
-
--- the order of the block that a plan asks for; None where it asks for none
-abbrev pub order_of : PagePlan → Option ℕ
-order_of plan.Zero = None
-order_of (plan.Packed order target exceptions) = Some order
-order_of plan.Raw = Some 3
 
 -- a page is kept as its plan says
 abbrev pub IsAtPlan : PagePlan → Desc → Type 0

@@ -7,7 +7,7 @@ use Rattle.page_plan.specs.Layout.{stored_sizes}
 use Rattle.page_plan.specs.PagePlan.{plan_of}
 use Rattle.page_store.specs.declared.desc.Desc.{Desc}
 use Rattle.page_store.specs.declared.desc.Desc.TheVariants.{Zero}
-use Rattle.page_store.specs.Pages.{page_of}
+use Rattle.page_plan.specs.Pages.{page_of}
 use Rattle.page_store.specs.PageBlocks.{IsAtPlan, AreSound}
 
 -- the codec of the plans, the lines, how each page is kept, the bytes of the frames, the counts, and how many calls were refused

@@ -1,7 +1,8 @@
 // One page's block, as its plan changes.
 ghost use Rattle.std.specs.Prelude.{◌≡◌, ◌≤◌, ◌<◌, Some, None, IfOk, IfErr, IfSome, OnErr};
 ghost use Rattle.buddy_frames.specs.Units.{IsUsedPlace};
-ghost use Rattle.page_store.specs.PageBlocks.{block_of, IsAtPlan, order_of, Outgrows};
+ghost use Rattle.page_plan.specs.Sizes.{order_of};
+ghost use Rattle.page_store.specs.PageBlocks.{block_of, IsAtPlan, Outgrows};
 ghost use Rattle.page_store.specs.Moves.{HasNoneBut, Moves, GetsBlock};
 
 use crate::desc::Desc;

@@ -1,6 +1,7 @@
 // The lines of one page among those of all.
 ghost use Rattle.std.specs.Prelude.{◌≡◌, ◌<◌, ◌≤◌, ◌+◌, ◌*◌, ◌/◌, length, slice_set};
-ghost use Rattle.page_store.specs.Pages.{page_of, with_page, lines_of};
+ghost use Rattle.page_plan.specs.Pages.{page_of};
+ghost use Rattle.page_store.specs.Pages.{with_page, lines_of};
 
 use hier_types::Line;
 

@@ -53,7 +53,7 @@ impl Pages {
     ghost use Rattle.page_store.specs.Store.{IsSound, HasZero, fresh};
     ghost use Rattle.page_store.specs.Calls.{written_more, RewritesPage, PlacesPage};
     ghost use Rattle.page_store.specs.Pages.{with_page};
-    ghost use Rattle.page_store.specs.Sizes.{sizes_of_memory};
+    ghost use Rattle.page_plan.specs.Sizes.{sizes_of_memory};
     ghost use Rattle.page_plan.specs.Layout.{stored_sizes};
 
     /// The pages of the span, all of them zero, and 1 to 65,536 frames, of which none is in use. All memory is taken here.

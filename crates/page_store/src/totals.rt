@@ -1,12 +1,10 @@
 // What the pages take, summed anew.
 ghost use Rattle.std.specs.Prelude.{◌≡◌, ◌≤◌, ◌*◌, length, count_by};
-ghost use Rattle.std.specs.List.{sum_by};
-ghost use Rattle.page_store.specs.Sizes.{bytes_at};
 ghost use Rattle.page_store.specs.KeptSizes.{has_none, has_block, exceptions_kept, encoded_kept, sum_kept, totals_kept};
 
 use crate::desc::Desc;
 use hier_types::{PAGE_BYTES, Totals};
-use page_plan::exceptions;
+use page_plan::{encoded, exceptions};
 
 /// Whether a page has no block.
 fn is_zero(desc: &Desc) -> bool
@@ -57,29 +55,6 @@ fn exceptions_of(desc: &Desc, sizes: &[Option<u8>; 64]) -> u32
     }
 }
 
-/// The bytes that a line takes in a packed page.
-fn bytes_of(size: Option<u8>, target: u8) -> u32
-    ensures value { result ≡ bytes_at target size }
-    ensures most { result ≤ 255 }
-{
-    match size {
-        Some(bytes) if bytes <= target => u32::from(bytes),
-        _ => 64,
-    }
-}
-
-/// And all lines of it.
-fn sum_of(sizes: &[Option<u8>; 64], target: u8) -> u32
-    ensures value { result ≡ sum_by (bytes_at target) sizes.now }
-    ensures most { result ≤ 16320 }
-{
-    let mut bytes = 0;
-    for size in sizes {
-        bytes += bytes_of(*size, target);
-    }
-    bytes
-}
-
 /// The bytes of the lines of a page.
 fn encoded_of(desc: &Desc, sizes: &[Option<u8>; 64]) -> u32
     ensures value { result ≡ encoded_kept desc.now sizes.now }
@@ -87,7 +62,7 @@ fn encoded_of(desc: &Desc, sizes: &[Option<u8>; 64]) -> u32
 {
     match desc {
         Desc::Zero => 0,
-        Desc::Packed { target, .. } => sum_of(sizes, *target),
+        Desc::Packed { target, .. } => encoded(sizes, *target),
         Desc::Raw { .. } => PAGE_BYTES,
     }
 }

@@ -1,11 +1,11 @@
 -- The most recent line of a set is read and changed.
-use Rattle.std.proofs.Common.{◌≡◌, ◌≢◌, ◌<◌, ◌%◌, ℕ, Bool, true, false, List, [], ◌∷◌, Option, Some, None, length, length-set, set, refl, sym, ap, ◌∙◌, subst, arith}
+use Rattle.std.proofs.Common.{◌≡◌, ◌≢◌, ◌<◌, ◌%◌, ℕ, true, false, List, [], ◌∷◌, Some, length, length-set, set, refl, sym, ap, ◌∙◌, subst}
 use Rattle.std.specs.List.{slice_get}
 use Rattle.std.specs.Option.{option_map}
 use Rattle.recency.proofs.ListLemmas.{slice_get-set, slice_get-set_other, same_lists}
 use Rattle.recency.specs.declared.entry.Entry.{Entry}
 use Rattle.recency.specs.Kept.{Kept, with_lines, entry_of, dirty_entry, overwritten}
-use Rattle.recency.specs.Levels.{set_at, set_of, with_set, kept_of, bytes_or, overlay, IsGood, IsGoodEntry, IsSound, IsFirst}
+use Rattle.recency.specs.Levels.{set_of, with_set, bytes_or, overlay, IsGood, IsSound, IsFirst}
 use Rattle.recency.proofs.UseLemmas.{by_eq}
 use Rattle.recency.proofs.EntryLemmas.{at_front, past_front}
 use Rattle.recency.proofs.LevelLemmas.{shown, shown_kept, set_at-same, set_at-other, slice_get-overlay, length-overlay, sound_step, in_range}
@@ -13,10 +13,6 @@ use Rattle.recency.proofs.LevelLemmas.{shown, shown_kept, set_at-same, set_at-ot
 pub first_kept : (es : List Entry) (e : Entry) (line : ℕ) → slice_get es 0 ≡ Some e → e.line ≡ line → entry_of es line ≡ Some e
 first_kept [] e line is at = absurd (let h = is in cc)
 first_kept (f ∷ es) e line is at = let same : f ≡ e = cc in at_front f es line (ap (λ z. z.line) same ∙ at) ∙ ap Some same
-
-pub first_some : (es : List Entry) (e : Entry) → slice_get es 0 ≡ Some e → 0 < length es
-first_some [] e is = absurd (let h = is in cc)
-first_some (f ∷ es) e is = omega arith
 
 pub first_shown : (lines : List (List ℕ)) (sets : List Kept) (line : ℕ) (e : Entry) → line < length lines
     → slice_get (set_of sets line).lines 0 ≡ Some e → e.line ≡ line → slice_get (overlay lines sets) line ≡ Some e.bytes

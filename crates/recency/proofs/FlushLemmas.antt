@@ -1,5 +1,5 @@
 -- Dirty lines are written below, one after another.
-use Rattle.std.proofs.Common.{◌≡◌, ◌≢◌, ◌<◌, ◌≤◌, ◌+◌, ◌%◌, ◌==◌, ℕ, zero, suc, Bool, true, false, List, [], ◌∷◌, Option, Some, None, Result, Ok, Err, length, length-set, set, drop, refl, sym, ap, ◌∙◌, subst, arith, ◌⊎◌, inl, inr, if◌then◌else◌}
+use Rattle.std.proofs.Common.{◌≡◌, ◌≢◌, ◌<◌, ◌≤◌, ◌+◌, ◌%◌, ◌==◌, ℕ, zero, suc, true, false, List, [], ◌∷◌, Option, Some, None, length, length-set, set, drop, refl, sym, ap, ◌∙◌, subst, arith, ◌⊎◌, inl, inr, if◌then◌else◌}
 use Rattle.std.specs.List.{slice_get}
 use Rattle.std.specs.Option.{option_map}
 use Rattle.std.proofs.lemmas.Bool.{ne_eqb, eq-eqb}
@@ -7,7 +7,7 @@ use Rattle.recency.proofs.ListLemmas.{slice_get-set, slice_get-set_other}
 use Rattle.hier_types.proofs.LineLemmas.{lines-set}
 use Rattle.recency.specs.declared.entry.Entry.{Entry}
 use Rattle.recency.specs.Kept.{Kept, with_lines, entry_of, cleaned, last_dirty, last_dirty_from, clean_in}
-use Rattle.recency.specs.Levels.{set_at, set_of, with_set, kept_of, bytes_or, overlay, IsGood, IsGoodEntry, IsSound, IsFirst}
+use Rattle.recency.specs.Levels.{set_at, set_of, kept_of, bytes_or, overlay, IsGood, IsGoodEntry, IsSound, IsFirst}
 use Rattle.recency.specs.Steps.{next_dirty, next_dirty_or, with_clean}
 use Rattle.recency.proofs.UseLemmas.{by_eq}
 use Rattle.recency.proofs.EntryLemmas.{at_front, past_front, good_entry, good_elsewhere}
@@ -159,10 +159,11 @@ module _ (lines : List (List ℕ)) (sets : List Kept) (sound : IsSound lines set
 -- the last dirty entry of a set is kept in the set of its line
 pub turn_kept : (lines : List (List ℕ)) (sets : List Kept) (sound : IsSound lines sets) (i : ℕ) (e : Entry) → last_dirty (set_at sets i).lines ≡ Some e → kept_of sets e.line ≡ Some e
 turn_kept lines sets sound i e is = elim (last_dirty_is lines (length sets) i (set_at sets i).lines None e (sound.good i) is) [
-      inl k ↦ absurd (let q = k in cc)
-    | inr k ↦ (
-        let home : e.line % length sets ≡ i = (good_entry lines (length sets) i (set_at sets i).lines e.line e (sound.good i) k.0).home in
-        subst (λ j. entry_of (set_at sets j).lines e.line ≡ Some e) (sym home) k.0) ]
+  | inl k ↦ absurd (let q = k in cc)
+  | inr k ↦ (
+      let home : e.line % length sets ≡ i = (good_entry lines (length sets) i (set_at sets i).lines e.line e (sound.good i) k.0).home in
+      subst (λ j. entry_of (set_at sets j).lines e.line ≡ Some e) (sym home) k.0)
+]
 
 -- how many entries are dirty
 abbrev pub dirty_in : List Entry → ℕ
@@ -214,7 +215,7 @@ module _ (lines : List (List ℕ)) (sets : List Kept) (sound : IsSound lines set
       sound_step lines (set lines e.line e.bytes) sets (e.line % length sets) (with_lines (set_of sets e.line) (clean_in (set_of sets e.line).lines e.line)) sound (lines-set lines e.line e.bytes sound.whole good_back.full) range (sound.ways _ range)
       (λ j apart. good_elsewhere lines (length sets) j (set_at sets j).lines e.line e.bytes apart (sound.good j))
       (good_clean_in lines (length sets) (e.line % length sets) (set_of sets e.line).lines e.line e.bytes (sound.good (e.line % length sets))
-        (λ f is. (let q : Some f ≡ Some e = sym is ∙ kept in let same : f ≡ e = cc in ap (λ z. z.bytes) same)))
+      (λ f is. (let q : Some f ≡ Some e = sym is ∙ kept in let same : f ≡ e = cc in ap (λ z. z.bytes) same)))
 
   pub back_same : overlay (set lines e.line e.bytes) (with_clean sets e.line) ≡ overlay lines sets
   back_same =

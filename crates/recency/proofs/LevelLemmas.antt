@@ -1,20 +1,20 @@
 -- What a change of one set, or of the layer below, does to the whole.
-use Rattle.std.proofs.Common.{◌≡◌, ◌≢◌, ◌<◌, ◌+◌, ◌%◌, ◌==◌, ℕ, zero, suc, Bool, true, false, List, [], ◌∷◌, Option, Some, None, length, length-set, set, cond, refl, sym, ap, ◌∙◌, subst, arith, get_or, nat_lt, ◌≤◌, ◌-◌, ◌^◌, if◌then◌else◌, bit_and, replicate}
+use Rattle.std.proofs.Common.{◌≡◌, ◌≢◌, ◌<◌, ◌+◌, ◌%◌, ℕ, zero, suc, Bool, true, false, List, [], ◌∷◌, Option, Some, None, length, length-set, set, refl, sym, ap, ◌∙◌, subst, arith, get_or, nat_lt, ◌≤◌, ◌-◌, ◌^◌, if◌then◌else◌, bit_and, replicate}
 use Rattle.std.specs.List.{slice_get}
-use Rattle.std.specs.Option.{option_map, unwrap_or, is_some, MatchOption}
+use Rattle.std.specs.Option.{option_map, is_some, MatchOption}
 use Rattle.std.proofs.lemmas.Bool.{ltb-false}
 use Rattle.std.proofs.lemmas.Option.{slice_get-get_or, slice_get_within, get_or_from_slice_get}
 use Rattle.recency.proofs.ListLemmas.{slice_get-set, slice_get-set_other, set_there, same_lists}
 use Rattle.recency.specs.declared.entry.Entry.{Entry}
 use Rattle.recency.specs.Uses.{last_of, but_last}
-use Rattle.recency.specs.Kept.{Kept, with_lines, entry_of, without, touched, clean_last, cleaned, put_in, dirty_victim, if_dirty, clean_entry, dirty_entry}
-use Rattle.recency.specs.Levels.{set_at, set_of, with_set, kept_of, bytes_or, overlay_from, overlay, IsGoodEntry, IsGood, IsSound, KeepsUnder, IsMasked}
+use Rattle.recency.specs.Kept.{Kept, with_lines, entry_of, touched, clean_last, cleaned, put_in, dirty_victim, if_dirty, clean_entry}
+use Rattle.recency.specs.Levels.{set_at, set_of, with_set, kept_of, bytes_or, overlay_from, overlay, IsGood, IsSound, KeepsUnder, IsMasked}
 use Rattle.hier_types.specs.Lines.{AreLines}
 use Rattle.hier_types.specs.Settings.{IsPowerOfTwo}
 use Rattle.std.proofs.lemmas.Nat.{and_mask, pow_pos}
 use Rattle.std.proofs.lemmas.List.{length-replicate}
 use Rattle.recency.proofs.UseLemmas.{by_eq}
-use Rattle.recency.proofs.EntryLemmas.{at_front, past_front, good_entry, good_touched, entry_of-touched, last_entry, entry_of-but_last_other, entry_of-but_last_last, good_but_last, entry_of-clean_other, entry_of-clean_last, good_clean_last, good_elsewhere, entry_of-but_last_none}
+use Rattle.recency.proofs.EntryLemmas.{at_front, past_front, good_entry, good_touched, entry_of-touched, last_entry, entry_of-but_last_other, entry_of-but_last_last, good_but_last, entry_of-clean_other, entry_of-clean_last, entry_of-but_last_none}
 
 pub slice_get-overlay_from : (kept : ℕ → Option Entry) (i : ℕ) (lines : List (List ℕ)) (j : ℕ) → slice_get (overlay_from kept i lines) j ≡ option_map (bytes_or (kept (i + j))) (slice_get lines j)
 slice_get-overlay_from kept i [] j = refl
@@ -229,6 +229,6 @@ viewed_below lines sets line found old bytes below copied f there = slice_get-ov
 pub copied_kept : (sets : List Kept) (line : ℕ) (found : Bool) (old bytes : List ℕ) → MatchOption (kept_of sets line) ((found ≡ false) × (bytes ≡ old)) (λ e. (found ≡ true) × (bytes ≡ e.bytes)) → found ≡ true → is_some (kept_of sets line) ≡ true
 copied_kept sets line found old bytes copied t = go (kept_of sets line) refl copied
   where
-  go : (kept : Option Entry) → kept_of sets line ≡ kept → MatchOption kept ((found ≡ false) × (bytes ≡ old)) (λ e. (found ≡ true) × (bytes ≡ e.bytes)) → is_some (kept_of sets line) ≡ true
-  go None is copied = absurd (let k : true ≡ false = sym t ∙ copied.0 in cc)
-  go (Some e) is copied = ap is_some is
+    go : (kept : Option Entry) → kept_of sets line ≡ kept → MatchOption kept ((found ≡ false) × (bytes ≡ old)) (λ e. (found ≡ true) × (bytes ≡ e.bytes)) → is_some (kept_of sets line) ≡ true
+    go None is copied = absurd (let k : true ≡ false = sym t ∙ copied.0 in cc)
+    go (Some e) is copied = ap is_some is

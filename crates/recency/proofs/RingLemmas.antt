@@ -1,9 +1,8 @@
 -- Slots that are taken out of a ring, and put into it.
-use Rattle.std.proofs.Common.{◌≡◌, ◌≢◌, ◌<◌, ◌≤◌, ◌+◌, ◌==◌, ℕ, zero, suc, Bool, true, false, not, List, [], ◌∷◌, Option, Some, None, length, length-set, set, get_or, refl, sym, ap, ◌∙◌, subst, arith, get_or-set_same, get_or-set_other}
+use Rattle.std.proofs.Common.{◌≡◌, ◌≢◌, ◌<◌, ◌≤◌, ◌+◌, ◌==◌, ℕ, zero, suc, true, false, not, List, [], ◌∷◌, Some, None, length, length-set, set, get_or, refl, sym, ap, ◌∙◌, subst, arith, get_or-set_same, get_or-set_other}
 use Rattle.std.proofs.lemmas.Bool.{eq-eqb, ne_eqb}
-use Rattle.std.specs.List.{slice_get}
 use Rattle.recency.specs.Uses.{has, removed, last_of, more_recent, IsDistinct, AllBelow}
-use Rattle.recency.specs.Ring.{Links, Back, walk, slots_of, IsRing, IsLinked, LeadsToItself}
+use Rattle.recency.specs.Ring.{Links, Back, walk, slots_of, IsRing, IsLinked}
 use Rattle.recency.proofs.UseLemmas.{first_or, after, before, last_or, by_eq, has_front, has_past, not_front, not_past, not_both, has_apart, before_has, after_has, has-removed_other, has-removed, distinct-removed, below-removed, length-removed, has_below, below_absent, last_of-or, more_none, more_before, more_first}
 
 -- links that agree on the slots
@@ -232,37 +231,8 @@ pub last_none : (ss : List ℕ) (w : ℕ) → AllBelow ss w → last_or w ss ≡
 last_none [] w b e = refl
 last_none (y ∷ ss) w b e = let lt = last_below y ss w b.0 b.1 in absurd (omega arith)
 
--- a ring with no slot
-pub ring_empty : (next prev : List ℕ) (w : ℕ) → LeadsToItself next w → LeadsToItself prev w → IsRing next prev w []
-ring_empty next prev w n p = record {
-  next_len = n.len;
-  prev_len = p.len;
-  forth = n.each w (omega arith);
-  back = p.each w (omega arith);
-  distinct = tt;
-  below = tt;
-  short = omega arith;
-  alone = λ s lt h. n.each s (omega arith);
-}
-
-first_of-or : (w : ℕ) (ss : List ℕ) → first_or ss w ≢ w → slice_get ss 0 ≡ Some (first_or ss w)
-first_of-or w [] ne = absurd (ne refl)
-first_of-or w (y ∷ ss) ne = refl
-
-first_none : (w : ℕ) (ss : List ℕ) → AllBelow ss w → first_or ss w ≡ w → slice_get ss 0 ≡ None
-first_none w [] b e = refl
-first_none w (y ∷ ss) b e = let lt = b.0 in absurd (omega arith)
-
 -- what the links tell of the slots
 module _ {next prev : List ℕ} {w head count : ℕ} (links : IsLinked next prev w head count) where
-  pub head_some : head ≢ w → slice_get (slots_of next w) 0 ≡ Some head
-  head_some ne =
-      let is : head ≡ first_or (slots_of next w) w = links.first_is ∙ first_is next w (slots_of next w) w links.ring.forth in
-      first_of-or w (slots_of next w) (λ e. ne (is ∙ e)) ∙ ap Some (sym is)
-
-  pub head_none : head ≡ w → slice_get (slots_of next w) 0 ≡ None
-  head_none e = first_none w (slots_of next w) links.ring.below (sym (first_is next w (slots_of next w) w links.ring.forth) ∙ sym links.first_is ∙ e)
-
   pub tail_some : get_or prev w 0 ≢ w → last_of (slots_of next w) ≡ Some (get_or prev w 0)
   tail_some ne =
       let is = last_is next prev w (slots_of next w) links.ring in

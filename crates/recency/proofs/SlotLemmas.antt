@@ -1,14 +1,13 @@
 -- What is kept in slots, when the order or a slot changes.
-use Rattle.std.proofs.Common.{◌≡◌, ◌≢◌, ◌<◌, ◌≤◌, ◌+◌, ◌==◌, ℕ, zero, suc, Bool, true, false, List, [], ◌∷◌, ◌++◌, Option, Some, None, map, length, length-set, set, get_or, refl, sym, ap, ◌∙◌, subst, arith, if◌then◌else◌, nat_lt, get_or-set_same, get_or-set_other}
-use Rattle.std.specs.List.{slice_get}
+use Rattle.std.proofs.Common.{◌≡◌, ◌≢◌, ◌<◌, ◌≤◌, ◌+◌, ◌==◌, ℕ, zero, suc, true, false, List, [], ◌∷◌, ◌++◌, Option, Some, None, map, length, refl, sym, ap, ◌∙◌, arith, if◌then◌else◌}
 use Rattle.std.specs.Option.{option_map, IfSome}
 use Rattle.std.proofs.lemmas.Bool.{eq-eqb, ne_eqb}
 use Rattle.recency.specs.declared.entry.Entry.{Entry}
 use Rattle.recency.specs.declared.entry.Tag.{Tag}
-use Rattle.recency.specs.Uses.{Used, has, removed, last_of, but_last, more_recent, IsDistinct, AllBelow}
-use Rattle.recency.specs.Kept.{Kept, entry_of, without, touched, clean_entry, cleaned, clean_last, clean_in, last_dirty, last_dirty_from}
-use Rattle.recency.specs.Slots.{tag_at, entry_at, entries_of, IsTagged, IsStored, IsSlotOf}
-use Rattle.recency.proofs.UseLemmas.{by_eq, has_front, has_past, not_front, not_past, not_both, has_apart, before, before_has, more_behind, more_absent, has_below, has-removed, has-removed_other, distinct-removed, below-removed, length-removed}
+use Rattle.recency.specs.Uses.{has, removed, last_of, but_last, more_recent, IsDistinct}
+use Rattle.recency.specs.Kept.{entry_of, without, last_dirty, last_dirty_from}
+use Rattle.recency.specs.Slots.{tag_at, entry_at, entries_of}
+use Rattle.recency.proofs.UseLemmas.{by_eq, has_front, has_past, not_both, before, before_has, more_behind, more_absent, has-removed_other, length-removed}
 
 -- the entries are the same where slots and bytes are
 pub entries_same : (tags new : List Tag) (bytes other : List (List ℕ)) (ss : List ℕ) → ((s : ℕ) → has ss s ≡ true → entry_at new other s ≡ entry_at tags bytes s) → entries_of new other ss ≡ entries_of tags bytes ss

@@ -1,25 +1,16 @@
 -- A set's lines, by what its slots keep.
-use Rattle.std.proofs.Common.{◌≡◌, ◌≢◌, ◌<◌, ◌≤◌, ◌+◌, ◌==◌, ℕ, zero, suc, Bool, true, false, List, [], ◌∷◌, ◌++◌, Option, Some, None, map, length, length-set, set, get_or, refl, sym, ap, ◌∙◌, subst, arith, if◌then◌else◌, nat_lt, get_or-set_same, get_or-set_other}
+use Rattle.std.proofs.Common.{◌≡◌, ◌≢◌, ◌<◌, ◌≤◌, ℕ, Bool, true, false, List, [], ◌∷◌, Some, None, length, length-set, set, get_or, refl, sym, ap, ◌∙◌, arith, if◌then◌else◌, nat_lt, get_or-set_same, get_or-set_other}
 use Rattle.std.specs.List.{slice_get}
 use Rattle.std.specs.Option.{option_map, is_some}
 use Rattle.std.proofs.lemmas.Bool.{eq-eqb, ne_eqb, le-ltb}
 use Rattle.std.proofs.lemmas.List.{length-map}
 use Rattle.recency.specs.declared.entry.Entry.{Entry}
 use Rattle.recency.specs.declared.entry.Tag.{Tag}
-use Rattle.recency.specs.Uses.{Used, has, removed, last_of, but_last, more_recent, IsDistinct, AllBelow}
-use Rattle.recency.specs.Kept.{Kept, entry_of, without, touched, clean_entry, dirty_entry, cleaned, clean_last, clean_in, last_dirty, put_in, has_room, dirty_victim, if_dirty, overwritten, poked}
-use Rattle.recency.specs.Slots.{tag_at, entry_at, entries_of, IsTagged, IsStored, IsSlotOf}
-use Rattle.recency.proofs.UseLemmas.{by_eq, has_front, has_past, not_front, not_past, not_both, has_apart, has_below, has-removed, has-removed_other, distinct-removed, below-removed, removed_none}
-use Rattle.recency.proofs.SlotLemmas.{entries_same, slot_entry, slot_none, none_slot, last_of-map, but_last-map, last_has, last_none_empty, removed_last, more_has}
-
-get_or-any : {A : Type 0} (xs : List A) (i : ℕ) (d e : A) → i < length xs → get_or xs i d ≡ get_or xs i e
-get_or-any [] i d e lt = absurd (omega arith)
-get_or-any (x ∷ xs) zero d e lt = refl
-get_or-any (x ∷ xs) (suc i) d e lt = get_or-any xs i d e (omega arith)
-
--- a tag that was read
-pub tag_read : (tags : List Tag) (s : ℕ) (t : Tag) → s < length tags → t ≡ get_or tags s t → tag_at tags s ≡ t
-tag_read tags s t lt is = get_or-any tags s (record { line = 0; dirty = false }) t lt ∙ sym is
+use Rattle.recency.specs.Uses.{Used, has, removed, last_of, but_last, more_recent, IsDistinct}
+use Rattle.recency.specs.Kept.{entry_of, without, touched, dirty_entry, cleaned, clean_last, clean_in, put_in, dirty_victim, if_dirty, overwritten, poked}
+use Rattle.recency.specs.Slots.{tag_at, entry_at, entries_of, IsStored, IsSlotOf}
+use Rattle.recency.proofs.UseLemmas.{by_eq, has_front, has_past, not_both, has_apart, has_below, has-removed, has-removed_other, distinct-removed, below-removed}
+use Rattle.recency.proofs.SlotLemmas.{entries_same, slot_entry, slot_none, none_slot, last_of-map, but_last-map, last_has, last_none_empty, removed_last}
 
 -- the first slot is in use
 pub first_has : (ss : List ℕ) (s : ℕ) → slice_get ss 0 ≡ Some s → has ss s ≡ true
@@ -152,31 +143,6 @@ module _ {ways : ℕ} {order : Used} {tags : List Tag} {bytes : List (List ℕ)}
       was : (s : ℕ) → has order.slots s ≡ true → (x : ℕ) → has (s ∷ removed order.slots s) x ≡ true → has order.slots x ≡ true
       was s h x k = by_eq x s (λ e. ap (has order.slots) e ∙ h) (λ ne. has_used order.slots s x k ne)
 
-  -- another mark on a slot's line
-  pub stored_marked : (s : ℕ) (dirty : Bool) → IsStored ways order (set tags s (record { line = (tag_at tags s).line; dirty = dirty })) bytes
-  stored_marked s dirty = record {
-    some = stored.some;
-    ways_are = stored.ways_are;
-    tagged = record {
-      len = rw length-set stored.tagged.len;
-      distinct = stored.tagged.distinct;
-      below = stored.tagged.below;
-      unique = λ x y hx hy same. stored.tagged.unique x y hx hy (sym (marked x hx) ∙ same ∙ marked y hy);
-    };
-    full = stored.full;
-  }
-    where
-      marked : (x : ℕ) → has order.slots x ≡ true → (tag_at (set tags s (record { line = (tag_at tags s).line; dirty = dirty })) x).line ≡ (tag_at tags x).line
-      marked x h = by_eq x s
-          (λ e. ap (λ z. (tag_at (set tags s (record { line = (tag_at tags s).line; dirty = dirty })) z).line) e
-          ∙ ap (λ (t : Tag). t.line) (get_or-set_same tags s (record { line = (tag_at tags s).line; dirty = dirty }) (record { line = 0; dirty = false }) (subst (λ z. z < length tags) e (tag_within x h)))
-          ∙ sym (ap (λ z. (tag_at tags z).line) e))
-          (λ ne. ap (λ (t : Tag). t.line) (get_or-set_other tags s x (record { line = (tag_at tags s).line; dirty = dirty }) (record { line = 0; dirty = false }) ne))
-
-  -- other bytes in a slot
-  pub stored_bytes : (s : ℕ) (b : List ℕ) → IsStored ways order tags (set bytes s b)
-  stored_bytes s b = record { some = stored.some; ways_are = stored.ways_are; tagged = stored.tagged; full = rw length-set stored.full }
-
   pub cleaned_slot : (s line : ℕ) → has order.slots s ≡ true → (tag_at tags s).line ≡ line → entries_of (set tags s (clean_tag tags s)) bytes order.slots ≡ clean_in (entries_of tags bytes order.slots) line
   cleaned_slot s line h at = clean_at_slot tags bytes order.slots s line stored.tagged.distinct h (tag_within s h) at (only_slot s line h at)
 
@@ -272,20 +238,20 @@ last_but_last (y ∷ z ∷ w ∷ ss) s d is =
 module _ {ways : ℕ} {order : Used} {tags : List Tag} {bytes : List (List ℕ)} (stored : IsStored ways order tags bytes) where
   pub stored_dropped : (s : ℕ) → IsStored ways (record { ways = order.ways; slots = removed order.slots s }) tags bytes
   stored_dropped s = record {
-      some = stored.some;
-      ways_are = stored.ways_are;
-      tagged = record {
-        len = stored.tagged.len;
-        distinct = distinct-removed order.slots s stored.tagged.distinct;
-        below = below-removed order.slots s order.ways stored.tagged.below;
-        unique = λ x y hx hy same. stored.tagged.unique x y (has_dropped order.slots s x stored.tagged.distinct hx) (has_dropped order.slots s y stored.tagged.distinct hy) same;
-      };
-      full = stored.full;
-    }
+    some = stored.some;
+    ways_are = stored.ways_are;
+    tagged = record {
+      len = stored.tagged.len;
+      distinct = distinct-removed order.slots s stored.tagged.distinct;
+      below = below-removed order.slots s order.ways stored.tagged.below;
+      unique = λ x y hx hy same. stored.tagged.unique x y (has_dropped order.slots s x stored.tagged.distinct hx) (has_dropped order.slots s y stored.tagged.distinct hy) same;
+    };
+    full = stored.full;
+  }
 
   pub none_left : (s line : ℕ) → has order.slots s ≡ true → (tag_at tags s).line ≡ line → entry_of (entries_of tags bytes (removed order.slots s)) line ≡ None
   none_left s line h at = slot_none tags bytes (removed order.slots s) line (λ x k is.
-    not_both (has (removed order.slots s) s) (ap (has (removed order.slots s)) (sym (only_slot stored s line h at x (has_dropped order.slots s x stored.tagged.distinct k) is)) ∙ k) (has-removed order.slots s stored.tagged.distinct))
+      not_both (has (removed order.slots s) s) (ap (has (removed order.slots s)) (sym (only_slot stored s line h at x (has_dropped order.slots s x stored.tagged.distinct k) is)) ∙ k) (has-removed order.slots s stored.tagged.distinct))
 
   pub found_without : (s line : ℕ) → has order.slots s ≡ true → (tag_at tags s).line ≡ line → entries_of tags bytes (removed order.slots s) ≡ without (entries_of tags bytes order.slots) line
   found_without s line h at = sym (slot_entry tags bytes order.slots s line stored.tagged.distinct h at (only_slot stored s line h at)).1
@@ -296,18 +262,18 @@ module _ {ways : ℕ} {order : Used} {tags : List Tag} {bytes : List (List ℕ)}
   pub oldest_none : (line : ℕ) → last_of order.slots ≡ None → last_of (without (entries_of tags bytes order.slots) line) ≡ None
   oldest_none line is = empty order.slots is
     where
-    empty : (ss : List ℕ) → last_of ss ≡ None → last_of (without (entries_of tags bytes ss) line) ≡ None
-    empty [] is = refl
-    empty (y ∷ ss) is = let n : length (y ∷ ss) ≡ 0 = last_none_empty (y ∷ ss) is in absurd (omega arith)
+      empty : (ss : List ℕ) → last_of ss ≡ None → last_of (without (entries_of tags bytes ss) line) ≡ None
+      empty [] is = refl
+      empty (y ∷ ss) is = let n : length (y ∷ ss) ≡ 0 = last_none_empty (y ∷ ss) is in absurd (omega arith)
 
   pub oldest_is_last : (s line : ℕ) → last_of order.slots ≡ Some s → (tag_at tags s).line ≢ line → last_of (without (entries_of tags bytes order.slots) line) ≡ Some (entry_at tags bytes s)
   oldest_is_last s line is ne =
-    last_without (entries_of tags bytes order.slots) (entry_at tags bytes s) line (last_of-map (entry_at tags bytes) order.slots ∙ ap (option_map (entry_at tags bytes)) is) ne
+      last_without (entries_of tags bytes order.slots) (entry_at tags bytes s) line (last_of-map (entry_at tags bytes) order.slots ∙ ap (option_map (entry_at tags bytes)) is) ne
 
   pub oldest_is_next : (s line : ℕ) → last_of order.slots ≡ Some s → (tag_at tags s).line ≡ line → last_of (without (entries_of tags bytes order.slots) line) ≡ option_map (entry_at tags bytes) (more_recent order.slots s)
   oldest_is_next s line is at =
-    ap last_of (sym (found_without s line (last_has order.slots s is) at) ∙ ap (entries_of tags bytes) (removed_last order.slots s stored.tagged.distinct is))
-    ∙ last_of-map (entry_at tags bytes) (but_last order.slots) ∙ ap (option_map (entry_at tags bytes)) (last_but_last order.slots s stored.tagged.distinct is)
+      ap last_of (sym (found_without s line (last_has order.slots s is) at) ∙ ap (entries_of tags bytes) (removed_last order.slots s stored.tagged.distinct is))
+      ∙ last_of-map (entry_at tags bytes) (but_last order.slots) ∙ ap (option_map (entry_at tags bytes)) (last_but_last order.slots s stored.tagged.distinct is)
 
 -- a line is put into a slot
 module _ {ways : ℕ} {order : Used} {tags : List Tag} {bytes : List (List ℕ)} (stored : IsStored ways order tags bytes) (s line : ℕ) (b : List ℕ) (dirty : Bool) (inside : s < ways) where

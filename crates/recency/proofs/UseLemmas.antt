@@ -1,7 +1,7 @@
 -- Slots in use, and those that are taken out.
-use Rattle.std.proofs.Common.{◌≡◌, ◌≢◌, ◌<◌, ◌≤◌, ◌+◌, ◌==◌, ℕ, zero, suc, Bool, true, false, List, [], ◌∷◌, Option, Some, None, length, refl, sym, ap, ◌∙◌, subst, arith, if◌then◌else◌}
+use Rattle.std.proofs.Common.{◌≡◌, ◌≢◌, ◌<◌, ◌+◌, ◌==◌, ℕ, Bool, true, false, List, [], ◌∷◌, Some, None, length, refl, sym, ap, ◌∙◌, subst, arith, if◌then◌else◌}
 use Rattle.std.proofs.lemmas.Bool.{eqb-true, eqb-false, eq-eqb, ne_eqb}
-use Rattle.recency.specs.Uses.{has, removed, last_of, but_last, more_recent, IsDistinct, AllBelow}
+use Rattle.recency.specs.Uses.{has, removed, last_of, more_recent, IsDistinct, AllBelow}
 
 -- the first slot, or else the number given
 abbrev pub first_or : List ℕ → ℕ → ℕ

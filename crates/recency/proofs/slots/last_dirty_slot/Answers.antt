@@ -1,4 +1,4 @@
-use Rattle.std.proofs.Common.{◌≡◌, ◌<◌, ◌∙◌, refl, sym, ap, arith, Some, length}
+use Rattle.std.proofs.Common.{◌∙◌, sym, ap, arith}
 use Rattle.recency.specs.declared.entry.Tag.{Tag}
 use Rattle.recency.specs.Kept.{last_dirty}
 use Rattle.recency.specs.Slots.{entries_of}

@@ -1,5 +1,5 @@
 use Rattle.recency.proofs.UseLemmas.{has_below}
-use Rattle.std.proofs.Common.{◌<◌, arith}
+use Rattle.std.proofs.Common.{arith}
 use Rattle.recency.proofs.slots.slot_of.Goals as goal
 
 pub returns : goal.returns

@@ -1,4 +1,4 @@
-use Rattle.std.proofs.Common.{◌≡◌, ◌≤◌, ◌<◌, ◌∙◌, sym, length, arith, false, nat_lt}
+use Rattle.std.proofs.Common.{◌≡◌, ◌≤◌, ◌∙◌, sym, length, arith, false, nat_lt}
 use Rattle.std.proofs.lemmas.Bool.{le-ltb}
 use Rattle.recency.proofs.UseLemmas.{has_below}
 use Rattle.recency.proofs.SlotLemmas.{last_has, last_none_empty, removed_last}

@@ -1,4 +1,4 @@
-use Rattle.std.proofs.Common.{◌≡◌, ◌≤◌, ◌∙◌, sym, length, arith}
+use Rattle.std.proofs.Common.{◌≤◌, ◌∙◌, sym, length, arith}
 use Rattle.recency.proofs.UseLemmas.{removed_none}
 use Rattle.recency.proofs.SlotLemmas.{covered}
 use Rattle.recency.proofs.slots.unused_slot.Goals as goal

@@ -1,4 +1,4 @@
-use Rattle.std.proofs.Common.{◌≡◌, ◌∙◌, Ok, Err, sym, ap, refl}
+use Rattle.std.proofs.Common.{Ok, Err}
 use Rattle.hier_types.proofs.CallLemmas.{Makes-read}
 use Rattle.recency.proofs.LevelLemmas.{length-overlay, in_range}
 use Rattle.l1_cache.proofs.StepLemmas.{bring_refused, bring_read, put_level, put_same}

@@ -1,7 +1,7 @@
-use Rattle.std.proofs.Common.{◌≡◌, ◌<◌, Some, None, Ok, Err, refl, sym, ◌∙◌, ap, subst, arith}
+use Rattle.std.proofs.Common.{◌≡◌, Some, None, Ok, Err, refl, sym, ◌∙◌, arith}
 use Rattle.hier_types.proofs.CallLemmas.{Makes-none, Makes-write, Makes-write_then}
-use Rattle.recency.specs.Steps.{next_dirty, with_clean}
-use Rattle.recency.proofs.FlushLemmas.{AreClean, dirty_sum, back_falls, next_kept, next_before_clean}
+use Rattle.recency.specs.Steps.{next_dirty}
+use Rattle.recency.proofs.FlushLemmas.{back_falls, next_kept, next_before_clean}
 use Rattle.l1_cache.proofs.l1.L1.flush.Goals as goal
 
 pub returns-in-Err-clause-did : goal.returns-in-Err-clause-did

@@ -1,4 +1,4 @@
-use Rattle.std.proofs.Common.{◌≡◌, ◌≤◌, ◌<◌, List}
+use Rattle.std.proofs.Common.{◌≡◌, ◌≤◌, List}
 use Rattle.hier_types.specs.Calls.{Answer, Makes}
 use Rattle.recency.specs.Kept.{Kept}
 use Rattle.recency.specs.Steps.{Flushes}

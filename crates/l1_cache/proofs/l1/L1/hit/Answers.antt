@@ -1,7 +1,4 @@
-use Rattle.std.proofs.Common.{◌≡◌, ◌∙◌, Some, sym, ap, refl, true}
-use Rattle.std.specs.Option.{is_some}
-use Rattle.hier_types.specs.declared.counts.L1Counts.{L1Counts}
-use Rattle.recency.specs.Levels.{kept_of}
+use Rattle.std.proofs.Common.{◌∙◌, sym, refl}
 use Rattle.recency.proofs.LevelLemmas.{in_range, touch_same}
 use Rattle.l1_cache.proofs.StepLemmas.{held_is, hit_again, touched_none, touch_level}
 use Rattle.l1_cache.proofs.l1.L1.hit.Goals as goal

@@ -1,4 +1,4 @@
-use Rattle.std.proofs.Common.{◌≡◌, ◌∙◌, Some, Ok, Err, sym, ap, refl}
+use Rattle.std.proofs.Common.{Ok, Err, sym}
 use Rattle.hier_types.proofs.CallLemmas.{Makes-write, Makes-write_then}
 use Rattle.recency.proofs.LevelLemmas.{in_range}
 use Rattle.l1_cache.proofs.StepLemmas.{miss_refused, miss_written, absent_cleaned, ready_cleaned}

@@ -1,5 +1,3 @@
-use Rattle.std.proofs.Common.{◌≡◌, ◌∙◌, ap, length, length-set}
-use Rattle.std.specs.Option.{IfSome}
 use Rattle.recency.proofs.FlushLemmas.{back_inside, back_same}
 use Rattle.l1_cache.proofs.StepLemmas.{flush_level}
 use Rattle.l1_cache.proofs.l1.L1.write_back.Goals as goal

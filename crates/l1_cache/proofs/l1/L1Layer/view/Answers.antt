@@ -1,5 +1,3 @@
-use Rattle.std.proofs.Common.{◌≡◌, ◌∙◌, Some, sym, ap}
-use Rattle.recency.specs.Levels.{kept_of}
 use Rattle.recency.proofs.LevelLemmas.{length-overlay, viewed, viewed_below}
 use Rattle.l1_cache.proofs.l1.L1Layer.view.Goals as goal
 

@@ -1,4 +1,4 @@
-use Rattle.std.proofs.Common.{◌≡◌, ◌∙◌, sym, refl}
+use Rattle.std.proofs.Common.{◌∙◌, refl}
 use Rattle.hier_types.proofs.CallLemmas.{Makes-weaker}
 use Rattle.l1_cache.proofs.l1.L1Layer.write.Goals as goal
 

@@ -1,4 +1,3 @@
-use Rattle.std.proofs.Common.{◌≡◌, ◌∙◌, ◌-◌, ◌/◌, ◌%◌, sym, ap}
 use Rattle.l1_cache.proofs.BytesLemmas.{peeked}
 use Rattle.l1_cache.proofs.l1.L1Port.peek.Goals as goal
 

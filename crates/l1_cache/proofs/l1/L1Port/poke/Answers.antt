@@ -1,4 +1,3 @@
-use Rattle.std.proofs.Common.{◌≡◌, ◌∙◌, sym, ap}
 use Rattle.l1_cache.proofs.BytesLemmas.{poked_bytes, poked_level}
 use Rattle.l1_cache.proofs.l1.L1Port.poke.Goals as goal
 

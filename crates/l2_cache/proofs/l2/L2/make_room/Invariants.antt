@@ -17,8 +17,8 @@ invariant-loop-entry g l = record {
   later : g.B.Layer.stops l.fn.self.below ≤ g.B.Layer.stops l.self.below;
   absent : kept_of l.fn.self.sets l.line ≡ None → kept_of l.self.sets l.line ≡ None;
   on : (result : Answer) (new : List Kept) (t : g.row.B.Denot)
-    → Makes g.B.Layer.did_read g.B.Layer.did_write l.self.below (Changes (MakesRoom (size_under l.self.codec) l.bytes) l.self.sets l.line result new) t
-    → Makes g.B.Layer.did_read g.B.Layer.did_write l.fn.self.below (Changes (MakesRoom (size_under l.fn.self.codec) l.bytes) l.fn.self.sets l.line result new) t;
+      → Makes g.B.Layer.did_read g.B.Layer.did_write l.self.below (Changes (MakesRoom (size_under l.self.codec) l.bytes) l.self.sets l.line result new) t
+      → Makes g.B.Layer.did_read g.B.Layer.did_write l.fn.self.below (Changes (MakesRoom (size_under l.fn.self.codec) l.bytes) l.fn.self.sets l.line result new) t;
 }
 
 abbrev pub decreases-loop-entry : goal.decreases-loop-entry

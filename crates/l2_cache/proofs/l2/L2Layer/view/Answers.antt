@@ -1,5 +1,3 @@
-use Rattle.std.proofs.Common.{◌≡◌, ◌∙◌, Some, sym, ap}
-use Rattle.recency.specs.Levels.{kept_of}
 use Rattle.recency.proofs.LevelLemmas.{length-overlay, viewed, viewed_below}
 use Rattle.l2_cache.proofs.l2.L2Layer.view.Goals as goal
 

@@ -6,5 +6,5 @@ use Rattle.l2_cache.proofs.room_sets.RoomSets.clean.Goals as goal
 
 pub invariant_of-self : goal.invariant_of-self
 invariant_of-self c =
-  let lines = (set_of c.self.inside.sets c.args.line).lines in
-  rw c.clean.ensures (measured_kept c.self.invariant c.args.line (clean_in lines c.args.line) (length_clean lines c.args.line) (sum_clean (size_under c.self.inside.codec) lines c.args.line))
+    let lines = (set_of c.self.inside.sets c.args.line).lines in
+    rw c.clean.ensures (measured_kept c.self.invariant c.args.line (clean_in lines c.args.line) (length_clean lines c.args.line) (sum_clean (size_under c.self.inside.codec) lines c.args.line))

@@ -6,5 +6,5 @@ use Rattle.l2_cache.proofs.room_sets.RoomSets.touch.Goals as goal
 
 pub invariant_of-self : goal.invariant_of-self
 invariant_of-self c =
-  let lines = (set_of c.self.inside.sets c.args.line).lines in
-  rw c.touch.ensures.after (measured_kept c.self.invariant c.args.line (touched lines c.args.line) (length_touched lines c.args.line) (sum_touched (size_under c.self.inside.codec) lines c.args.line))
+    let lines = (set_of c.self.inside.sets c.args.line).lines in
+    rw c.touch.ensures.after (measured_kept c.self.invariant c.args.line (touched lines c.args.line) (length_touched lines c.args.line) (sum_touched (size_under c.self.inside.codec) lines c.args.line))

@@ -1,5 +1,6 @@
 use Rattle.std.proofs.Common.{◌≡◌, ◌<◌, ◌/◌, ◌∙◌, List, ℕ, ap, length, set, subst, arith}
-use Rattle.page_store.specs.Pages.{page_of, with_page}
+use Rattle.page_plan.specs.Pages.{page_of}
+use Rattle.page_store.specs.Pages.{with_page}
 use Rattle.page_store.specs.Store.{Store}
 use Rattle.page_store.specs.Calls.{RewritesPage}
 use Rattle.page_store.proofs.PageLemmas.{with_page-set}

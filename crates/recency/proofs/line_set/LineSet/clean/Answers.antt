@@ -1,4 +1,4 @@
-use Rattle.std.proofs.Common.{◌≡◌, ◌∙◌, sym, ap, refl}
+use Rattle.std.proofs.Common.{sym, ap}
 use Rattle.recency.proofs.StoreLemmas.{tag_within, cleaned_slot, clean_none_in}
 use Rattle.recency.proofs.line_set.LineSet.clean.Goals as goal
 

@@ -1,4 +1,4 @@
-use Rattle.std.proofs.Common.{◌≡◌, ◌∙◌, sym, ap, refl}
+use Rattle.std.proofs.Common.{◌∙◌, sym, ap}
 use Rattle.recency.proofs.StoreLemmas.{tag_within, cleaned_last, none_cleaned}
 use Rattle.recency.proofs.SlotLemmas.{last_has}
 use Rattle.recency.proofs.line_set.LineSet.clean_last.Goals as goal

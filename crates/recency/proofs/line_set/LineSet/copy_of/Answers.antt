@@ -1,4 +1,4 @@
-use Rattle.std.proofs.Common.{◌≡◌, ◌∙◌, sym, ap, refl}
+use Rattle.std.proofs.Common.{refl}
 use Rattle.recency.proofs.StoreLemmas.{bytes_within, found_entry}
 use Rattle.recency.proofs.SlotLemmas.{slot_none}
 use Rattle.recency.proofs.line_set.LineSet.copy_of.Goals as goal

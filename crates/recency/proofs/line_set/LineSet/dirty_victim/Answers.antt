@@ -1,4 +1,4 @@
-use Rattle.std.proofs.Common.{◌≡◌, ◌≤◌, ◌∙◌, sym, ap, refl, true, false, length, arith}
+use Rattle.std.proofs.Common.{◌≤◌, ◌∙◌, sym, ap, length, arith}
 use Rattle.std.proofs.lemmas.Bool.{not-false, not-true}
 use Rattle.recency.specs.declared.entry.Tag.{Tag}
 use Rattle.recency.proofs.SlotLemmas.{last_has}

@@ -1,4 +1,4 @@
-use Rattle.std.proofs.Common.{◌≡◌, ◌∙◌, Some, sym, ap}
+use Rattle.std.proofs.Common.{◌∙◌, Some, sym, ap}
 use Rattle.recency.proofs.SlotLemmas.{slot_none}
 use Rattle.recency.proofs.StoreLemmas.{tag_within, bytes_within, found_entry}
 use Rattle.recency.proofs.line_set.LineSet.entry.Goals as goal

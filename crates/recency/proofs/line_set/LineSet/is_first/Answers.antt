@@ -1,4 +1,4 @@
-use Rattle.std.proofs.Common.{◌≡◌, ◌∙◌, sym, ap}
+use Rattle.std.proofs.Common.{◌∙◌, sym, ap}
 use Rattle.std.proofs.lemmas.Bool.{eqb-true}
 use Rattle.recency.proofs.StoreLemmas.{first_has, tag_within, first_touched}
 use Rattle.recency.proofs.line_set.LineSet.is_first.Goals as goal

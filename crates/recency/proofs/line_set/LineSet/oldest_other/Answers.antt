@@ -1,4 +1,4 @@
-use Rattle.std.proofs.Common.{◌≡◌, ◌∙◌, Some, sym, ap}
+use Rattle.std.proofs.Common.{◌∙◌, Some, sym, ap}
 use Rattle.std.specs.Option.{option_map}
 use Rattle.recency.specs.declared.entry.Tag.{Tag}
 use Rattle.recency.specs.Slots.{entry_at}
@@ -41,4 +41,4 @@ pub returns : goal.returns
 returns c =
     rw (← c.self.view_is) (ap Some c.entry_in-2.ensures
     ∙ sym (oldest_is_next c.self.invariant c.in-Some.last c.args.line (sym c.in-Some.ensures) (sym (ap (λ (t : Tag). t.line) c.tag_of.ensures) ∙ c.if-tag_of-line.false)
-      ∙ ap (option_map (entry_at c.self.inside.tags.items c.self.inside.bytes.items)) (sym c.in-Some-before.ensures)))
+    ∙ ap (option_map (entry_at c.self.inside.tags.items c.self.inside.bytes.items)) (sym c.in-Some-before.ensures)))

@@ -1,4 +1,4 @@
-use Rattle.std.proofs.Common.{◌≡◌, ◌∙◌, sym, ap, refl, ◌∷◌, set}
+use Rattle.std.proofs.Common.{◌∙◌, ap, ◌∷◌, set}
 use Rattle.recency.specs.Uses.{Used, removed}
 use Rattle.recency.specs.Slots.{entries_of}
 use Rattle.recency.proofs.StoreLemmas.{stored_filled, filled_is}

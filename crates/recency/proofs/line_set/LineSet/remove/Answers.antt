@@ -1,4 +1,4 @@
-use Rattle.std.proofs.Common.{◌≡◌, ◌∙◌, sym, ap}
+use Rattle.std.proofs.Common.{ap}
 use Rattle.recency.proofs.SlotLemmas.{slot_none}
 use Rattle.recency.proofs.StoreLemmas.{used_below, stored_dropped, none_left, found_without, none_without}
 use Rattle.recency.proofs.line_set.LineSet.remove.Goals as goal

@@ -1,4 +1,4 @@
-use Rattle.std.proofs.Common.{◌≡◌, ◌∙◌, ap}
+use Rattle.std.proofs.Common.{ap}
 use Rattle.recency.proofs.StoreLemmas.{first_has, tag_within, bytes_within, changed_first}
 use Rattle.recency.proofs.line_set.LineSet.set_first.Goals as goal
 

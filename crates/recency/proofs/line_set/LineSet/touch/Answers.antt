@@ -1,4 +1,4 @@
-use Rattle.std.proofs.Common.{◌≡◌, ◌∙◌, sym, ap, refl}
+use Rattle.std.proofs.Common.{ap, refl}
 use Rattle.recency.proofs.SlotLemmas.{slot_none}
 use Rattle.recency.proofs.StoreLemmas.{used_below, found_entry, found_touched, none_touched, stored_used}
 use Rattle.recency.proofs.line_set.LineSet.touch.Goals as goal

@@ -1,5 +1,4 @@
-use Rattle.std.proofs.Common.{◌≡◌, ◌<◌, ◌≢◌, ap, refl, sym, ◌∙◌, arith, get_or, length}
-use Rattle.recency.specs.Uses.{removed}
+use Rattle.std.proofs.Common.{◌≢◌, ap, sym, ◌∙◌, arith, get_or}
 use Rattle.recency.specs.Ring.{slots_of}
 use Rattle.recency.proofs.UseLemmas.{has-removed, removed_none}
 use Rattle.recency.proofs.RingLemmas.{next_within, prev_within, drop_ring, count_fell, linked_here, slots_are, not_in_use}

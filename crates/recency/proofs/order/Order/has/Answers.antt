@@ -1,4 +1,4 @@
-use Rattle.std.proofs.Common.{◌==◌, ap, not, sym, ◌∙◌}
+use Rattle.std.proofs.Common.{◌==◌, ap, not, ◌∙◌}
 use Rattle.recency.proofs.RingLemmas.{used_test}
 use Rattle.recency.proofs.order.Order.has.Goals as goal
 

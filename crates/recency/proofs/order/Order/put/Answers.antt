@@ -1,5 +1,4 @@
-use Rattle.std.proofs.Common.{◌≡◌, ◌<◌, ◌+◌, ◌∷◌, ap, refl, sym, ◌∙◌, arith, length}
-use Rattle.recency.specs.Ring.{slots_of}
+use Rattle.std.proofs.Common.{◌<◌, ◌+◌, ap, sym, ◌∙◌, arith}
 use Rattle.recency.proofs.RingLemmas.{count_room, put_ring, linked_here, slots_are}
 use Rattle.recency.proofs.order.Order.put.Goals as goal
 

@@ -1,5 +1,5 @@
 -- What the pages of a memory take at their plans.
-use Rattle.std.specs.Prelude.{ℕ, ◌*◌, ◌^◌, ◌==◌, Bool, true, false, List, Option, count_by, if◌then◌else◌, unwrap_or}
+use Rattle.std.specs.Prelude.{ℕ, ◌*◌, ◌^◌, ◌==◌, Bool, true, false, List, Option, Some, None, count_by, if◌then◌else◌, unwrap_or}
 use Rattle.std.specs.List.{sum_by}
 use Rattle.std.specs.Option.{option_map_or}
 use Rattle.hier_types.specs.declared.counts.Totals.{Totals}
@@ -8,8 +8,13 @@ use Rattle.page_plan.specs.declared.least.PagePlan.{PagePlan}
 use Rattle.page_plan.specs.declared.least.PagePlan.TheVariants.{Zero, Packed, Raw}
 use Rattle.page_plan.specs.Layout.{is_exception, stored_sizes}
 use Rattle.page_plan.specs.PagePlan.{plan_of}
-use Rattle.page_store.specs.Pages.{pages_of, plans_of}
-use Rattle.page_store.specs.PageBlocks.{order_of}
+use Rattle.page_plan.specs.Pages.{pages_of, plans_of}
+
+-- the order of the block that a plan asks for; None where it asks for none
+abbrev pub order_of : PagePlan → Option ℕ
+order_of Zero = None
+order_of (Packed order target exceptions) = Some order
+order_of Raw = Some 3
 
 -- the plan asks for a block of this order
 abbrev pub has_order : ℕ → PagePlan → Bool

@@ -1,7 +1,7 @@
 use Rattle.std.proofs.Common.{◌≡◌, ◌≤◌, ◌*◌, take}
 use Rattle.std.specs.List.{sum_by}
-use Rattle.page_store.specs.Sizes.{bytes_at}
-use Rattle.page_store.proofs.totals.sum_of.Given as goal
+use Rattle.page_plan.specs.Sizes.{bytes_at}
+use Rattle.page_plan.proofs.layout.encoded.Given as goal
 
 abbrev pub invariant-loop-size : goal.invariant-loop-size
 invariant-loop-size l = record {

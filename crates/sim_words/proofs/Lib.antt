@@ -1,0 +1,7 @@
+pub mod BeatLemmas
+pub mod PlainMatches
+pub mod PlainWalk
+pub mod ReadLemmas
+pub mod PowerLemmas
+pub mod TextLemmas
+pub mod ValueLemmas

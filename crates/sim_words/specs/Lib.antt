@@ -1,0 +1,4 @@
+pub mod CommandLine
+pub mod Requests
+pub mod Spelling
+pub mod Values

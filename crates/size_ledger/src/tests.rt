@@ -1,0 +1,44 @@
+use super::*;
+use hier_types::Totals;
+
+#[test]
+fn pages_come_and_go(rt: HostRuntime) {
+    let packed = SizeRow {
+        order: Some(0),
+        exceptions: 3,
+        encoded: 314,
+    };
+    let zeros = SizeRow {
+        order: None,
+        exceptions: 0,
+        encoded: 0,
+    };
+    let raw = SizeRow {
+        order: Some(3),
+        exceptions: 0,
+        encoded: 4096,
+    };
+    let mut ledger = Ledger::new();
+    ledger.add(&packed);
+    ledger.add(&zeros);
+    ledger.add(&raw);
+    let three = Totals {
+        zero: 1,
+        c512: 1,
+        c4096: 1,
+        exceptions: 3,
+        encoded: 4410,
+        blocks: 4608,
+        ..Totals::default()
+    };
+    assert_eq!(rt; ledger.totals(), three);
+    ledger.remove(&packed);
+    let two = Totals {
+        zero: 1,
+        c4096: 1,
+        encoded: 4096,
+        blocks: 4096,
+        ..Totals::default()
+    };
+    assert_eq!(rt; ledger.totals(), two);
+}

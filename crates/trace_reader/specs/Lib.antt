@@ -1,0 +1,5 @@
+pub mod Access
+pub mod Fields
+pub mod Parts
+pub mod Rows
+pub mod Trace
