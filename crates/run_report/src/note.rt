@@ -4,7 +4,7 @@ ghost use Rattle.std.specs.Io.KnownBytes.{Appends};
 ghost use Rattle.arrayvec.specs.ArrayVec.{array_vec_len};
 ghost use Rattle.hier_types.specs.Causes.{HasCause};
 ghost use Rattle.hier_types.specs.Outside.{AppendsFront};
-ghost use Rattle.run_report.specs.declared.end.End.TheVariants.{Exit, BadImage, Trap, NoteFault};
+ghost use Rattle.run_report.specs.declared.end.End.TheVariants.{Exit, BadImage, Trap, Space, NoRoom, NoteFault};
 ghost use Rattle.run_report.specs.Texts as texts;
 
 use crate::end::End;
@@ -51,12 +51,12 @@ fn retired_line(count: u64) -> TextLine
     line
 }
 
-/// Appends what is told of an end, at most 43 bytes.
+/// Appends what is told of an end, at most 124 bytes.
 fn put_end(line: &mut TextLine, end: &End)
     requires own { end.now ≢ NoteFault }
-    requires room { array_vec_len line.old.bytes + 43 ≤ 128 }
+    requires room { array_vec_len line.old.bytes + 124 ≤ 192 }
     ensures items { line.new.bytes.items ≡ line.old.bytes.items ++ texts.end_text end.now }
-    ensures len { array_vec_len line.new.bytes ≤ array_vec_len line.old.bytes + 43 }
+    ensures len { array_vec_len line.new.bytes ≤ array_vec_len line.old.bytes + 124 }
 {
     match end {
         End::Exit { status } => put_exit(line, *status),
@@ -65,6 +65,8 @@ fn put_end(line: &mut TextLine, end: &End)
         End::BadImage { fault } => put_image_fault(line, *fault),
         End::Trap { cause, pc, value } => put_trap(line, *cause, *pc, *value),
         End::Budget => line.word(b"budget"),
+        End::Space { at, order, free } => put_space(line, *at, *order, free),
+        End::NoRoom { at, order } => put_no_room(line, *at, *order),
         End::InFault => line.word(b"input failed"),
         End::OutFault => line.word(b"output failed"),
         End::NoteFault => unreachable!(),
@@ -77,7 +79,7 @@ fn put_end(line: &mut TextLine, end: &End)
 }
 
 fn put_exit(line: &mut TextLine, status: u32)
-    requires room { array_vec_len line.old.bytes + 25 ≤ 128 }
+    requires room { array_vec_len line.old.bytes + 25 ≤ 192 }
     ensures items { line.new.bytes.items ≡ line.old.bytes.items ++ texts.end_text (Exit status) }
     ensures len { array_vec_len line.new.bytes ≤ array_vec_len line.old.bytes + 25 }
 {
@@ -86,7 +88,7 @@ fn put_exit(line: &mut TextLine, status: u32)
 }
 
 fn put_trap(line: &mut TextLine, cause: u8, pc: u32, value: u32)
-    requires room { array_vec_len line.old.bytes + 43 ≤ 128 }
+    requires room { array_vec_len line.old.bytes + 43 ≤ 192 }
     ensures items { line.new.bytes.items ≡ line.old.bytes.items ++ texts.end_text (Trap cause pc value) }
     ensures len { array_vec_len line.new.bytes ≤ array_vec_len line.old.bytes + 43 }
 {
@@ -98,8 +100,53 @@ fn put_trap(line: &mut TextLine, cause: u8, pc: u32, value: u32)
     line.address(value);
 }
 
+fn put_space(line: &mut TextLine, at: u32, order: u8, free: &[u32; 4])
+    requires room { array_vec_len line.old.bytes + 124 ≤ 192 }
+    ensures items { line.new.bytes.items ≡ line.old.bytes.items ++ texts.end_text (Space at order free.now) }
+    ensures len { array_vec_len line.new.bytes ≤ array_vec_len line.old.bytes + 124 }
+{
+    line.word(b"space ");
+    line.address(at);
+    line.word(b" ");
+    line.number(u64::from(order));
+    line.word(b" free");
+    put_counts(line, free);
+}
+
+/// Appends some counts, each behind a space.
+fn put_counts(line: &mut TextLine, counts: &[u32; 4])
+    requires room { array_vec_len line.old.bytes + 84 ≤ 192 }
+    ensures items { line.new.bytes.items ≡ line.old.bytes.items ++ texts.counts_text counts.now }
+    ensures len { array_vec_len line.new.bytes ≤ array_vec_len line.old.bytes + 84 }
+{
+    for count in counts {
+        put_count(line, *count);
+    }
+}
+
+/// Appends a count behind a space.
+fn put_count(line: &mut TextLine, count: u32)
+    requires room { array_vec_len line.old.bytes + 21 ≤ 192 }
+    ensures items { line.new.bytes.items ≡ line.old.bytes.items ++ texts.count_text count }
+    ensures len { array_vec_len line.new.bytes ≤ array_vec_len line.old.bytes + 21 }
+{
+    line.word(b" ");
+    line.number(u64::from(count));
+}
+
+fn put_no_room(line: &mut TextLine, at: u32, order: u8)
+    requires room { array_vec_len line.old.bytes + 36 ≤ 192 }
+    ensures items { line.new.bytes.items ≡ line.old.bytes.items ++ texts.end_text (NoRoom at order) }
+    ensures len { array_vec_len line.new.bytes ≤ array_vec_len line.old.bytes + 36 }
+{
+    line.word(b"noroom ");
+    line.address(at);
+    line.word(b" ");
+    line.number(u64::from(order));
+}
+
 fn put_image_fault(line: &mut TextLine, fault: ImageFault)
-    requires room { array_vec_len line.old.bytes + 43 ≤ 128 }
+    requires room { array_vec_len line.old.bytes + 43 ≤ 192 }
     ensures items { line.new.bytes.items ≡ line.old.bytes.items ++ texts.end_text (BadImage fault) }
     ensures len { array_vec_len line.new.bytes ≤ array_vec_len line.old.bytes + 43 }
 {
@@ -111,7 +158,7 @@ fn put_image_fault(line: &mut TextLine, fault: ImageFault)
 
 /// Appends a program header's number, or that there is none.
 fn put_header(line: &mut TextLine, header: Option<u16>)
-    requires room { array_vec_len line.old.bytes + 20 ≤ 128 }
+    requires room { array_vec_len line.old.bytes + 20 ≤ 192 }
     ensures items { line.new.bytes.items ≡ line.old.bytes.items ++ texts.header_text header }
     ensures len { array_vec_len line.new.bytes ≤ array_vec_len line.old.bytes + 20 }
 {

@@ -6,10 +6,10 @@ ghost use Rattle.run_report.specs.Texts as texts;
 use arrayvec::ArrayVec;
 use itoa::Buffer;
 
-/// A line of text of at most 128 bytes.
+/// A line of text of at most 192 bytes.
 #[derive(Drop)]
 pub(crate) struct TextLine {
-    bytes: ArrayVec<u8, 128>,
+    bytes: ArrayVec<u8, 192>,
 }
 
 impl TextLine {
@@ -29,7 +29,7 @@ impl TextLine {
 
     /// Appends a text as it is.
     pub(crate) fn word(&mut self, text: &[u8])
-        requires room { array_vec_len self.old.bytes + length text.now ≤ 128 }
+        requires room { array_vec_len self.old.bytes + length text.now ≤ 192 }
         ensures items { self.new.bytes.items ≡ self.old.bytes.items ++ text.now }
         ensures len { array_vec_len self.new.bytes ≡ array_vec_len self.old.bytes + length text.now }
     {
@@ -40,7 +40,7 @@ impl TextLine {
 
     /// Appends a number in decimal digits.
     pub(crate) fn number(&mut self, n: u64)
-        requires room { array_vec_len self.old.bytes + 20 ≤ 128 }
+        requires room { array_vec_len self.old.bytes + 20 ≤ 192 }
         ensures items { self.new.bytes.items ≡ self.old.bytes.items ++ decimal n }
         ensures len { array_vec_len self.new.bytes ≤ array_vec_len self.old.bytes + 20 }
     {
@@ -50,7 +50,7 @@ impl TextLine {
 
     /// Appends a number in eight hexadecimal digits.
     pub(crate) fn address(&mut self, n: u32)
-        requires room { array_vec_len self.old.bytes + 8 ≤ 128 }
+        requires room { array_vec_len self.old.bytes + 8 ≤ 192 }
         ensures items { self.new.bytes.items ≡ self.old.bytes.items ++ texts.address n }
         ensures len { array_vec_len self.new.bytes ≡ array_vec_len self.old.bytes + 8 }
     {
