@@ -1,2 +1,2 @@
 pub mod StreamLemmas
-mod EndLemmas
+pub mod EndLemmas

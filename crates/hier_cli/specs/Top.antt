@@ -4,6 +4,7 @@ use Rattle.std.specs.declared.alloc.Global.{Global}
 use Rattle.std.specs.Str.{bytes_eq}
 use Rattle.std.specs.Io.KnownBytes.{Appends}
 use Rattle.hier_types.specs.Causes.{Rose}
+use Rattle.hier_types.specs.declared.faults.NoSpace.{NoSpace}
 use Rattle.hier_types.specs.Outside.{AppendsFront, file_of}
 use Rattle.hier_types.specs.Settings.{default_settings}
 use Rattle.hier_types.specs.Span.{Span}
@@ -12,11 +13,16 @@ use Rattle.sys_shim.specs.Streams.{AreUntouched, Stream, Streams}
 use Rattle.rv_guest.specs.declared.ends.MachineEnd.{MachineEnd}
 use Rattle.rv_guest.specs.declared.ends.MachineEnd.TheVariants as machine
 use Rattle.rv_guest.specs.Runs.{Runs}
-use Rattle.rv_guest.specs.State as guest
-use Rattle.hier_machine.specs.Start.{start_guest}
+use Rattle.page_store.specs.Crowds.{Crowded}
+use Rattle.hier_machine.specs.Memory.{Memory, store_of}
+use Rattle.hier_machine.specs.Placed.{NoRoomFor}
+use Rattle.hier_machine.specs.Runs.{MachineRun}
+use Rattle.hier_machine.specs.Spaces.{IsSpaceEnd}
+use Rattle.hier_machine.specs.Start.{Starts, start_guest}
+use Rattle.hier_machine.specs.State.{State}
 use Rattle.run_report.specs.declared.end.End.{End}
-use Rattle.run_report.specs.declared.end.End.TheVariants.{Exit, FileFault, TooLong, BadImage, Trap, Budget, InFault, OutFault, NoteFault, NoMemory, NotBuilt}
-use Rattle.run_report.specs.Texts.{note_text}
+use Rattle.run_report.specs.declared.end.End.TheVariants.{Exit, FileFault, TooLong, BadImage, Trap, Budget, Space, NoRoom, InFault, OutFault, NoteFault, NoMemory, NotBuilt}
+use Rattle.run_report.specs.Texts.{note_text, page_address}
 
 -- the most bytes that a file may have
 abbrev pub file_limit : ℕ
@@ -56,22 +62,45 @@ FailsToLoad out name = MatchOption out.files (Rose out.faults_before out.faults_
 abbrev pub IsTooLong : Outside → List ℕ → Type 0
 IsTooLong out name = IfSome out.files (λ files. (bytes : List ℕ) × (file_of files name ≡ Some bytes) × (file_limit < length bytes))
 
--- The file was accepted, and its program ran to this end, as the flat run says. So many instructions retired.
-pub record Ran (file : List ℕ) (streams : Streams) (end : MachineEnd) (retired : ℕ) : Type 0 where
+-- The file was accepted, and its program ran to this end, as the flat run says, and beat by beat over both cache levels and
+-- the pages that the image was placed in. So many instructions retired.
+pub record Ran (file : List ℕ) (streams : Streams) (end : MachineEnd) (retired : ℕ) (last : State) : Type 0 where
   pub accepted : fault_of span file ≡ None
-  pub last : guest.State
-  pub runs : Runs span budget (start_guest span file) end last streams
-  pub count : last.retired ≡ retired
+  pub runs : Runs span budget (start_guest span file) end last.guest streams
+  pub count : last.guest.retired ≡ retired
+  pub first : State
+  pub starts : Starts default_settings file first
+  pub beats : MachineRun first end last
+
+-- the same to this end, in some last state
+abbrev pub RanTo : List ℕ → Streams → MachineEnd → ℕ → Type 0
+RanTo file streams end retired = (last : State) × Ran file streams end retired last
+
+-- The run was refused a block, and the end tells of it. Every other page is then at its plan, and no free place holds a
+-- block for the refused one.
+pub record RanOut (file : List ℕ) (streams : Streams) (end : End) (retired : ℕ) : Type 0 where
+  pub refusal : NoSpace
+  pub last : State
+  pub ran : Ran file streams (machine.Space refusal) retired last
+  pub told : IsSpaceEnd last.memory refusal end
+  pub crowded : Crowded (store_of last.memory) refusal
+
+-- a page of the image was refused a block
+abbrev pub FindsNoRoom : List ℕ → ℕ → ℕ → Type 0
+FindsNoRoom file at order = (refusal : NoSpace) × (at ≡ page_address span refusal.page.0) × (order ≡ refusal.order)
+    × NoRoomFor (record { span = span; file = file }) default_settings.codec default_settings.frames refusal
 
 -- how the work on a file's bytes ends, and how many instructions retired where a machine was opened
 abbrev pub EndsFile : List ℕ → Streams → End → Option ℕ → Type 0
 EndsFile file streams (BadImage fault) None = (fault_of span file ≡ Some fault) × AreUntouched streams
 EndsFile file streams NoMemory None = AreUntouched streams
-EndsFile file streams (Exit status) (Some retired) = Ran file streams (machine.Exit status) retired
-EndsFile file streams (Trap cause pc value) (Some retired) = Ran file streams (machine.Trap cause pc value) retired
-EndsFile file streams Budget (Some retired) = Ran file streams machine.Budget retired
-EndsFile file streams InFault (Some retired) = Ran file streams machine.InFault retired
-EndsFile file streams OutFault (Some retired) = Ran file streams machine.OutFault retired
+EndsFile file streams (NoRoom at order) None = (fault_of span file ≡ None) × FindsNoRoom file at order × AreUntouched streams
+EndsFile file streams (Exit status) (Some retired) = RanTo file streams (machine.Exit status) retired
+EndsFile file streams (Trap cause pc value) (Some retired) = RanTo file streams (machine.Trap cause pc value) retired
+EndsFile file streams Budget (Some retired) = RanTo file streams machine.Budget retired
+EndsFile file streams (Space at order free) (Some retired) = RanOut file streams (Space at order free) retired
+EndsFile file streams InFault (Some retired) = RanTo file streams machine.InFault retired
+EndsFile file streams OutFault (Some retired) = RanTo file streams machine.OutFault retired
 EndsFile file streams end retired = ⊥
 
 -- the words name a file of these bytes, of which there are not too many, and so the work on it ends
@@ -90,9 +119,11 @@ HasEndCause words out FileFault None = BeforeFile words out (FailsToLoad out)
 HasEndCause words out TooLong None = BeforeFile words out (IsTooLong out)
 HasEndCause words out NoMemory None = BeforeFile words out (λ _. Unit {0})
 HasEndCause words out (BadImage fault) None = OnFile words out (BadImage fault) None
+HasEndCause words out (NoRoom at order) None = OnFile words out (NoRoom at order) None
 HasEndCause words out (Exit status) (Some retired) = OnFile words out (Exit status) (Some retired)
 HasEndCause words out (Trap cause pc value) (Some retired) = OnFile words out (Trap cause pc value) (Some retired)
 HasEndCause words out Budget (Some retired) = OnFile words out Budget (Some retired)
+HasEndCause words out (Space at order free) (Some retired) = OnFile words out (Space at order free) (Some retired)
 HasEndCause words out InFault (Some retired) = OnFile words out InFault (Some retired)
 HasEndCause words out OutFault (Some retired) = OnFile words out OutFault (Some retired)
 HasEndCause words out end retired = ⊥
@@ -117,17 +148,19 @@ code_of TooLong = 203
 code_of (BadImage fault) = 204
 code_of (Trap cause pc value) = 206
 code_of Budget = 207
+code_of (Space at order free) = 208
+code_of (NoRoom at order) = 209
 code_of InFault = 210
 code_of OutFault = 211
 code_of NoteFault = 212
 code_of NoMemory = 213
 code_of (NotBuilt part) = 214
 
--- the end of a machine's run as the program's; a run over plain lines is never refused a touch
-abbrev pub IsEndOf : MachineEnd → End → Type 0
-IsEndOf (machine.Exit status) end = end ≡ Exit status
-IsEndOf (machine.Trap cause pc value) end = end ≡ Trap cause pc value
-IsEndOf machine.Budget end = end ≡ Budget
-IsEndOf (machine.Space refusal) end = ⊥
-IsEndOf machine.InFault end = end ≡ InFault
-IsEndOf machine.OutFault end = end ≡ OutFault
+-- the end of a machine's run as the program's; of a refused block it tells what the memory then has
+abbrev pub IsEndOf : Memory → MachineEnd → End → Type 0
+IsEndOf memory (machine.Exit status) end = end ≡ Exit status
+IsEndOf memory (machine.Trap cause pc value) end = end ≡ Trap cause pc value
+IsEndOf memory machine.Budget end = end ≡ Budget
+IsEndOf memory (machine.Space refusal) end = IsSpaceEnd memory refusal end
+IsEndOf memory machine.InFault end = end ≡ InFault
+IsEndOf memory machine.OutFault end = end ≡ OutFault

@@ -1,10 +1,8 @@
 // How the program ends, and with which code.
-ghost use Rattle.std.specs.Prelude.{◌≡◌, ◌≢◌};
-ghost use Rattle.hier_types.specs.declared.faults.NoSpace.{NoSpace};
-ghost use Rattle.rv_guest.specs.declared.ends.MachineEnd.TheVariants.{Space};
+ghost use Rattle.std.specs.Prelude.{◌≡◌};
 ghost use Rattle.hier_cli.specs.Top.{IsEndOf, code_of};
 
-use hier_machine::MachineEnd;
+use hier_machine::{Machine, MachineEnd};
 use run_report::End;
 
 /// The end and the exit code. `docs/FORMATS.md` has the code and the cause of each end.
@@ -27,6 +25,8 @@ impl Status {
             End::BadImage { .. } => 204,
             End::Trap { .. } => 206,
             End::Budget => 207,
+            End::Space { .. } => 208,
+            End::NoRoom { .. } => 209,
             End::InFault => 210,
             End::OutFault => 211,
             End::NoteFault => 212,
@@ -37,16 +37,15 @@ impl Status {
     }
 }
 
-/// The end of a machine's run, which was not refused a touch.
-pub(crate) fn end_of_machine(end: MachineEnd) -> End
-    requires { (refusal : NoSpace) → end ≢ Space refusal }
-    ensures { IsEndOf end result }
+/// The end of a machine's run.
+pub(crate) fn end_of_machine(machine: &Machine, end: MachineEnd) -> End
+    ensures { IsEndOf machine.now.memory end result }
 {
     match end {
         MachineEnd::Exit(status) => End::Exit { status },
         MachineEnd::Trap { cause, pc, value } => End::Trap { cause, pc, value },
         MachineEnd::Budget => End::Budget,
-        MachineEnd::Space(_) => unreachable!(),
+        MachineEnd::Space(refusal) => machine.space(refusal),
         MachineEnd::InFault => End::InFault,
         MachineEnd::OutFault => End::OutFault,
     }

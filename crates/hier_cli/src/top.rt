@@ -5,7 +5,7 @@ ghost use Rattle.hier_cli.specs.Top.{EndsFile, Finishes, HasEndCause, code_of, n
 
 use crate::status::{Status, end_of_machine};
 use elf_image::{ImageKind, read_image};
-use hier_machine::Machine;
+use hier_machine::{Machine, OpenFault};
 use hier_types::{Settings, Shelf, ShelfFault, Sink, Source};
 use run_report::{End, Part, write_end};
 use std::alloc::Global;
@@ -52,12 +52,16 @@ fn run_file<I: Source, O: Sink>(alloc: Global, file: Vec<u8>, input: &mut I, out
         }
         Err(fault) => return Outcome::before_run(End::BadImage { fault }),
     };
-    let Ok(mut machine) = Machine::open(alloc, &settings, &image) else {
-        return Outcome::before_run(End::NoMemory);
+    let mut machine = match Machine::open(alloc, &settings, &image) {
+        Ok(machine) => machine,
+        Err(OpenFault::NoMemory) => return Outcome::before_run(End::NoMemory),
+        Err(OpenFault::NoRoom(refusal)) => {
+            return Outcome::before_run(End::no_room(settings.geometry, refusal));
+        }
     };
-    let end = end_of_machine(machine.run(input, out));
+    let end = machine.run(input, out);
     Outcome {
-        end,
+        end: end_of_machine(&machine, end),
         retired: Some(machine.retired()),
     }
 }

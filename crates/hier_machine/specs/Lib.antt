@@ -3,6 +3,7 @@ pub mod Lines
 pub mod Memory
 pub mod Placed
 pub mod Runs
+pub mod Spaces
 pub mod Start
 pub mod State
 pub mod Words

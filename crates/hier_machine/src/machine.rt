@@ -5,16 +5,18 @@ ghost use Rattle.sys_shim.specs.Streams.{FaultsStay, stream, streams};
 ghost use Rattle.hier_machine.specs.Beats.{Beats, HartBeats};
 ghost use Rattle.hier_machine.specs.Placed.{IsOpenFault};
 ghost use Rattle.hier_machine.specs.Runs.{Runs};
+ghost use Rattle.hier_machine.specs.Spaces.{AreFreeCounts, IsSpaceEnd};
 ghost use Rattle.hier_machine.specs.Start.{Starts, start_memory};
 
 use crate::ends::OpenFault;
 use crate::opening::place_image;
 use crate::page_view::view_page;
 use elf_image::Image;
-use hier_types::{Beat, BeatWord, Layer, NoMemory, PageNo, Port, Settings, Sink, Source};
+use hier_types::{Beat, BeatWord, Layer, NoMemory, NoSpace, PageNo, Port, Settings, Sink, Source};
 use l1_cache::L1;
 use l2_cache::L2;
 use page_store::Pages;
+use run_report::End;
 use rv_core::Regs;
 use rv_guest::{Guest, MachineEnd};
 use std::alloc::Global;
@@ -83,6 +85,14 @@ impl Machine {
         ensures x { result.now.x ≡ self.now.guest.hart.x }
     {
         &self.guest.regs
+    }
+
+    /// The end of a run that was refused a block: the page's address, the order, and the free blocks of each order.
+    pub fn space(&self, refusal: NoSpace) -> End
+        ensures { IsSpaceEnd self.now.memory refusal result }
+    {
+        let free = free_counts(self.memory.below().below());
+        End::space(self.memory.span(), refusal, free)
     }
 
     /// How many instructions retired.
@@ -185,4 +195,11 @@ fn levels_over(alloc: Global, store: Pages, settings: &Settings) -> Result<L1<L2
         settings.l1_sets,
         settings.l1_ways,
     )
+}
+
+/// The free blocks of each order.
+fn free_counts(store: &Pages) -> [u32; 4]
+    ensures { AreFreeCounts store.now.used result }
+{
+    [store.free(0), store.free(1), store.free(2), store.free(3)]
 }
