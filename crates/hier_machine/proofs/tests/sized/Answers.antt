@@ -7,8 +7,8 @@ pub returns-clause-rules : goal.returns-clause-rules
 returns-clause-rules c =
     let rules : AreWithinRules c.default.result = subst AreWithinRules (sym c.default.ensures) default_rules in
     record {
-      pages = c.requires.some_pages, c.requires.most_pages;
-      frames = c.requires.some_frames, c.requires.most_frames;
+      pages = (c.requires.some_pages, c.requires.most_pages);
+      frames = (c.requires.some_frames, c.requires.most_frames);
       l1_sets = rules.l1_sets;
       l1_ways = rules.l1_ways;
       l2_sets = rules.l2_sets;
