@@ -1,5 +1,5 @@
 -- The image, placed page by page.
-use Rattle.std.proofs.Common.{◌≡◌, ◌≢◌, ℕ, zero, suc, ◌+◌, ◌-◌, ◌*◌, ◌<◌, ◌≤◌, List, [], ◌∷◌, ◌++◌, length, set, replicate, take, drop, get_or, Some, slice_get, refl, sym, ◌∙◌, ap, subst, arith, append_assoc, inl, inr}
+use Rattle.std.proofs.Common.{◌≡◌, ◌≢◌, ℕ, zero, suc, ◌+◌, ◌-◌, ◌*◌, ◌<◌, ◌≤◌, List, [], ◌++◌, length, replicate, take, drop, get_or, Some, slice_get, refl, sym, ◌∙◌, ap, subst, arith, append_assoc, inl, inr}
 use Rattle.std.proofs.Math.Seq.{take-append_seam, drop-append_seam, drop-append-add}
 use Rattle.std.proofs.lemmas.List.{append-nil, length-replicate, replicate-append-replicate, take-replicate, drop-replicate}
 use Rattle.hier_types.specs.declared.settings.Codec.{Codec}
@@ -7,14 +7,12 @@ use Rattle.hier_types.specs.Lines.{zero_line}
 use Rattle.hier_types.specs.Tabulate.{tabulate}
 use Rattle.hier_types.proofs.TableLemmas.{length-tabulate, part-tabulate, tabulate-add, tabulate-by_index, tabulate-none, tabulate-same}
 use Rattle.elf_image.specs.Image.{Loaded, byte_at, page_of}
-use Rattle.page_store.specs.declared.desc.Desc.{Desc}
 use Rattle.page_store.specs.declared.desc.Desc.TheVariants.{Zero}
-use Rattle.page_store.specs.Calls.{PlacesPage}
 use Rattle.page_store.specs.Pages.{with_page, lines_of}
-use Rattle.page_store.specs.Store.{HasZero, Store, fresh}
+use Rattle.page_store.specs.Store.{HasZero, Store}
 use Rattle.page_store.proofs.ListLemmas.{get-set_other}
 use Rattle.hier_machine.specs.Lines.{line_in, lines_before}
-use Rattle.hier_machine.specs.Placed.{PlacedUpTo, PlacesBytes, zero_page}
+use Rattle.hier_machine.specs.Placed.{PlacedUpTo, zero_page}
 
 -- a line of a page
 line_of_page : (image : Loaded) (page index : ℕ) → index < 64 → take 64 (drop (64 * index) (page_of image.span image.file page)) ≡ line_in image (64 * page + index)

@@ -1,5 +1,5 @@
 -- A run, beat by beat.
-use Rattle.std.proofs.Common.{◌≡◌, ◌<◌, ◌≤◌, ◌+◌, ◌%◌, ℕ, zero, suc, length, true, false, Option, Some, None, refl, ◌∙◌, ap, subst, sym, arith}
+use Rattle.std.proofs.Common.{◌≡◌, ◌<◌, ◌≤◌, ◌+◌, ◌%◌, ℕ, suc, true, false, Some, None, refl, ◌∙◌, ap, subst, sym, arith}
 use Rattle.std.proofs.Math.Nat.{suc-mod}
 use Rattle.hier_types.specs.declared.beats.Beat.{Beat}
 use Rattle.hier_types.specs.declared.beats.Beat.TheVariants.{Hart, Mover, Cleaner}
@@ -8,11 +8,10 @@ use Rattle.sys_shim.specs.Streams.{AreUntouched, FaultsStay, Streams}
 use Rattle.rv_guest.specs.declared.ends.MachineEnd.{MachineEnd}
 use Rattle.rv_guest.specs.declared.ends.MachineEnd.TheVariants.{Exit, Trap, Budget, Space, InFault, OutFault}
 use Rattle.rv_guest.specs.Beat.{DoesBeat}
-use Rattle.rv_guest.specs.Runs as guest
 use Rattle.rv_guest.proofs.RunLemmas as lemmas
 use Rattle.rv_guest.proofs.RunLemmas.{Meets, over}
 use Rattle.hier_machine.specs.Beats.{Beats, HartBeats, Stays}
-use Rattle.hier_machine.specs.Runs.{IsBeat, LastBeat, MachineRun, Passed, Runs}
+use Rattle.hier_machine.specs.Runs.{IsBeat, LastBeat, Passed, Runs}
 use Rattle.hier_machine.specs.State.{State}
 
 -- From its start a run has come to the state now, by so many beats.

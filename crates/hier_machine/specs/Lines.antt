@@ -1,5 +1,5 @@
 -- The image as lines.
-use Rattle.std.specs.Prelude.{◌≡◌, ◌≤◌, ℕ, ◌+◌, ◌-◌, ◌*◌, List, ◌++◌, replicate}
+use Rattle.std.specs.Prelude.{ℕ, ◌+◌, ◌-◌, ◌*◌, List, ◌++◌, replicate}
 use Rattle.hier_types.specs.Lines.{zero_line}
 use Rattle.hier_types.specs.Tabulate.{tabulate}
 use Rattle.elf_image.specs.Image.{Loaded, byte_at}

@@ -1,9 +1,9 @@
 -- What a run of the machine does.
-use Rattle.std.specs.Prelude.{◌≡◌, ◌%◌, ℕ, zero, suc, List, length, Option, Some, None, slice_get, true}
+use Rattle.std.specs.Prelude.{◌≡◌, ◌%◌, ℕ, zero, suc, List, length, Some, None, slice_get, true}
 use Rattle.hier_types.specs.declared.beats.Beat.{Beat}
 use Rattle.sys_shim.specs.Streams.{Streams}
 use Rattle.rv_guest.specs.declared.ends.MachineEnd.{MachineEnd}
-use Rattle.rv_guest.specs.declared.ends.MachineEnd.TheVariants.{Exit, Trap, Budget, Space, InFault, OutFault}
+use Rattle.rv_guest.specs.declared.ends.MachineEnd.TheVariants.{Budget}
 use Rattle.rv_guest.specs.Runs as guest
 use Rattle.hier_machine.specs.Beats.{Beats, Stays}
 use Rattle.hier_machine.specs.State.{State}

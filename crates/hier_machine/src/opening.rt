@@ -1,5 +1,5 @@
 // The memory with the image in it.
-ghost use Rattle.std.specs.Prelude.{◌≡◌, ◌≤◌, ◌+◌, Err, IfErr, OnOk, length};
+ghost use Rattle.std.specs.Prelude.{◌≡◌, ◌≤◌, Err, IfErr, OnOk, length};
 ghost use Rattle.page_store.specs.Calls.{PlacesPage};
 ghost use Rattle.page_store.specs.Store.{HasZero, fresh};
 ghost use Rattle.hier_machine.specs.Placed.{NoRoomFor, PlacedUpTo, PlacesBytes};

@@ -1,6 +1,6 @@
 use super::*;
 use elf_image::read_image;
-use hier_types::{Beat, BeatWord, BytesSource, NullSink, PageNo, Settings};
+use hier_types::{Beat, BeatWord, BytesSource, Geometry, NoSpace, NullSink, PageNo, Settings};
 use std::alloc::Global;
 use std::test::Fail;
 
@@ -13,32 +13,48 @@ const COUNTING: [u8; 92] = [
 ];
 
 ghost use Rattle.std.specs.Prelude.{◌≡◌, ◌≤◌, ◌^◌, false, IfOk};
+ghost use Rattle.hier_types.specs.Settings.{AreWithinRules};
 
-/// The program, opened with a word of beats and a budget.
-fn counting(alloc: Global, beats: &[Beat], budget: u64) -> Result<Machine, Fail>
-    requires { budget ≤ 10 ^ 15 }
-    ensures { IfOk result (λ machine. (machine.ended ≡ false) × (machine.guest.retired ≡ 0) × (machine.span.pages ≡ 4096)) }
+/// The default settings, but with these pages, frames, beats and budget.
+fn sized(pages: u32, frames: u32, beats: &[Beat], budget: u64) -> Result<Settings, Fail>
+    requires some_pages { 1 ≤ pages }
+    requires most_pages { pages ≤ 65536 }
+    requires some_frames { 1 ≤ frames }
+    requires most_frames { frames ≤ 65536 }
+    requires budget { budget ≤ 10 ^ 15 }
+    ensures rules { IfOk result AreWithinRules }
+    ensures pages { IfOk result (λ settings. settings.geometry.pages ≡ pages) }
 {
-    let mut file = Vec::new(alloc);
-    file.extend_from_slice(&COUNTING)?;
-    let settings = Settings {
+    Ok(Settings {
+        geometry: Geometry { base: 16, pages },
+        frames,
         budget,
         beats: BeatWord::new(beats).ok_or("no word")?,
         ..Settings::default()
-    };
+    })
+}
+
+/// The program, opened with these settings.
+fn counting(alloc: Global, settings: &Settings) -> Result<Machine, Fail>
+    requires { AreWithinRules settings.now }
+    ensures { IfOk result (λ machine. (machine.ended ≡ false) × (machine.guest.retired ≡ 0) × (machine.memory.span.pages ≡ settings.now.geometry.pages)) }
+{
+    let mut file = Vec::new(alloc);
+    file.extend_from_slice(&COUNTING)?;
     let image = read_image(alloc, file, settings.geometry)
         .ok()
         .ok_or("no program")?;
     Ok(
-        Machine::open(alloc, &settings, &image)
+        Machine::open(alloc, settings, &image)
             .ok()
-            .ok_or("no memory")?,
+            .ok_or("no machine")?,
     )
 }
 
 #[test]
 fn a_machine_begins_with_its_image(rt: HostRuntime) -> Result<(), Fail> {
-    let machine = counting(rt.alloc(), &[Beat::Hart], 9)?;
+    let settings = sized(4096, 4096, &[Beat::Hart], 9)?;
+    let machine = counting(rt.alloc(), &settings)?;
     assert_eq!(rt; machine.regs().pc, 0x1_0000);
     assert_eq!(rt; machine.regs().x[2], 0x100_ffc0);
     assert_eq!(rt; machine.retired(), 0);
@@ -57,7 +73,8 @@ fn a_machine_begins_with_its_image(rt: HostRuntime) -> Result<(), Fail> {
 #[test]
 fn beats_of_the_hart_alone_retire(rt: HostRuntime) -> Result<(), Fail> {
     let alloc = rt.alloc();
-    let mut machine = counting(alloc, &[Beat::Hart], 9)?;
+    let settings = sized(4, 4, &[Beat::Hart], 9)?;
+    let mut machine = counting(alloc, &settings)?;
     let mut input = BytesSource::new(Vec::new(alloc), Vec::new(alloc));
     assert_eq!(rt; machine.beat(Beat::Mover, &mut input, &mut NullSink), None);
     assert_eq!(rt; machine.retired(), 0);
@@ -77,7 +94,8 @@ fn budgets_end_runs_and_words_change_none(rt: HostRuntime) -> Result<(), Fail> {
     ];
     for word in words {
         for (budget, count) in [(0, 0), (1, 1), (2, 1), (3, 2), (1000, 500)] {
-            let mut machine = counting(alloc, word, budget)?;
+            let settings = sized(4, 1, word, budget)?;
+            let mut machine = counting(alloc, &settings)?;
             let mut input = BytesSource::new(Vec::new(alloc), Vec::new(alloc));
             assert_eq!(rt; machine.run(&mut input, &mut NullSink), MachineEnd::Budget);
             assert!(rt; machine.ended());
@@ -85,5 +103,32 @@ fn budgets_end_runs_and_words_change_none(rt: HostRuntime) -> Result<(), Fail> {
             assert_eq!(rt; machine.regs().x[5], count, "budget {budget}");
         }
     }
+    Ok(())
+}
+
+/// One frame has room for the program's page and not for two pages of noise.
+#[test]
+fn images_without_room_are_refused(rt: HostRuntime) -> Result<(), Fail> {
+    let alloc = rt.alloc();
+    let mut file = Vec::new(alloc);
+    file.extend_from_slice(&COUNTING[..68])?;
+    file.extend_from_slice(&[0, 0x20, 0, 0, 0, 0x20, 0, 0, 5, 0, 0, 0, 4, 0, 0, 0])?;
+    let mut noise: u32 = 1;
+    for _ in 0..0x2000u32 {
+        noise = noise.wrapping_mul(1_664_525).wrapping_add(1_013_904_223);
+        file.push((noise >> 24) as u8)?;
+    }
+    let settings = sized(4, 1, &[Beat::Hart], 9)?;
+    let image = read_image(alloc, file, settings.geometry)
+        .ok()
+        .ok_or("no program")?;
+    let refusal = NoSpace {
+        page: PageNo(1),
+        order: 3,
+    };
+    assert_eq!(rt;
+        Machine::open(alloc, &settings, &image).err(),
+        Some(OpenFault::NoRoom(refusal))
+    );
     Ok(())
 }

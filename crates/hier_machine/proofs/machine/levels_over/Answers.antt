@@ -1,4 +1,4 @@
-use Rattle.std.proofs.Common.{◌≡◌, ◌∙◌, ◌*◌, length, ap}
+use Rattle.std.proofs.Common.{◌∙◌, ◌*◌, length, ap}
 use Rattle.l2_cache.specs.SecondLevel as two
 use Rattle.page_store.specs.Store.{Store}
 use Rattle.hier_machine.specs.Memory.{Below}

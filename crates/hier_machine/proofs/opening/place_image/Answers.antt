@@ -1,11 +1,11 @@
-use Rattle.std.proofs.Common.{◌≡◌, ◌≤◌, ◌<◌, ◌∙◌, ◌+◌, ℕ, List, length, Err, ap, sym, subst, arith}
+use Rattle.std.proofs.Common.{◌≤◌, ◌<◌, length, Err, sym, subst, arith}
 use Rattle.hier_types.specs.declared.settings.Codec.{Codec}
 use Rattle.elf_image.specs.Image.{page_of}
 use Rattle.page_store.specs.Calls.{PlacesPage}
 use Rattle.page_store.specs.Crowds.{Tight}
 use Rattle.hier_machine.specs.Lines.{lines_before}
 use Rattle.hier_machine.specs.Placed.{PlacedUpTo}
-use Rattle.hier_machine.proofs.PlacedLemmas.{PlacedFacts, placed_facts}
+use Rattle.hier_machine.proofs.PlacedLemmas.{placed_facts}
 use Rattle.hier_machine.proofs.opening.place_image.Goals as goal
 
 pub place_page-requires : goal.place_page-requires

@@ -1,4 +1,4 @@
-use Rattle.std.proofs.Common.{◌≡◌, ◌∙◌, ℕ, List, ◌*◌, length, refl, sym, ap, subst, arith}
+use Rattle.std.proofs.Common.{◌≡◌, ◌∙◌, ◌*◌, length, refl, sym, ap, subst, arith}
 use Rattle.std.proofs.lemmas.List.{length-replicate}
 use Rattle.hier_types.specs.declared.settings.Codec.{Codec}
 use Rattle.hier_types.specs.Lines.{flatten}
@@ -6,12 +6,10 @@ use Rattle.hier_types.specs.Span.{Span}
 use Rattle.hier_types.specs.Tabulate.{tabulate}
 use Rattle.hier_types.proofs.TableLemmas.{flatten-tabulate}
 use Rattle.elf_image.specs.Image.{Loaded, byte_at, end_of, entry, memory_of}
-use Rattle.rv_guest.specs.State as guest
 use Rattle.page_store.specs.Store.{Store}
-use Rattle.hier_machine.specs.Lines.{line_in}
 use Rattle.hier_machine.specs.Memory.{Memory, bytes_of, lines_below, lines_of, store_of}
 use Rattle.hier_machine.specs.Placed.{PlacedUpTo}
-use Rattle.hier_machine.specs.Start.{start_guest, start_memory}
+use Rattle.hier_machine.specs.Start.{start_memory}
 use Rattle.hier_machine.proofs.MemoryLemmas.{overlay_none}
 use Rattle.hier_machine.proofs.PlacedLemmas.{placed_all, placed_length}
 use Rattle.hier_machine.proofs.machine.Machine.open.Goals as goal

@@ -1,4 +1,4 @@
-use Rattle.std.proofs.Common.{◌≡◌, ◌≤◌, ◌<◌, ◌*◌, ◌+◌, length, subst, sym, arith}
+use Rattle.std.proofs.Common.{◌≡◌, ◌<◌, ◌*◌, length, subst, sym, arith}
 use Rattle.hier_types.specs.Lines.{flatten}
 use Rattle.hier_types.proofs.LineLemmas.{length-flatten}
 use Rattle.hier_machine.specs.Memory.{lines_of}
