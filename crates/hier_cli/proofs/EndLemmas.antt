@@ -17,12 +17,12 @@ use Rattle.page_store.specs.Crowds.{Crowded}
 use Rattle.hier_machine.specs.Memory.{store_of}
 use Rattle.hier_machine.specs.Placed.{NoRoomFor}
 use Rattle.hier_machine.specs.Runs.{LastBeat, Runs}
-use Rattle.hier_machine.specs.Start.{Starts, start_guest}
+use Rattle.hier_machine.specs.Start.{Starts}
 use Rattle.hier_machine.specs.State.{State}
 use Rattle.run_report.specs.declared.end.End.{End}
 use Rattle.run_report.specs.declared.end.End.TheVariants.{Exit, FileFault, TooLong, BadImage, Trap, Budget, Space, NoRoom, InFault, OutFault, NoteFault, NoMemory, NotBuilt}
 use Rattle.run_report.specs.Texts.{page_address}
-use Rattle.hier_cli.specs.Top.{EndsFile, FindsNoRoom, HasEndCause, IsEndOf, IsFile, Outside, Ran, RanOut, budget, file_limit, named_file, span}
+use Rattle.hier_cli.specs.Top.{EndsFile, FindsNoRoom, HasEndCause, IsEndOf, IsFile, Outside, Ran, budget, file_limit, named_file, span}
 
 -- the run of a machine that begins with the file's program
 ran : (file : List ℕ) (first last : State) (end : MachineEnd) (streams : Streams) → fault_of span file ≡ None → Starts default_settings file first → Runs first end last streams → Ran file streams end last.guest.retired last

@@ -1,5 +1,4 @@
 use Rattle.std.proofs.Common.{◌≡◌, ℕ, List, ap, sym, subst}
-use Rattle.hier_types.specs.declared.settings.Settings.{Settings}
 use Rattle.hier_types.specs.Settings.{AreWithinRules}
 use Rattle.hier_types.proofs.SettingLemmas.{default_rules}
 use Rattle.elf_image.specs.Image.{Loaded}
