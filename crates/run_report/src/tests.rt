@@ -53,7 +53,13 @@ fn each_end_has_its_line(rt: HostRuntime) -> Result<(), Fail> {
         (TRAP, "end trap 12 00010abc fffffff7\n"),
         (End::Budget, "end budget\n"),
         (SPACE, "end space 00018000 0 free 0 2 0 4294967295\n"),
-        (End::NoRoom { at: 0x1_0000, order: 3 }, "end noroom 00010000 3\n"),
+        (
+            End::NoRoom {
+                at: 0x1_0000,
+                order: 3,
+            },
+            "end noroom 00010000 3\n",
+        ),
         (End::InFault, "end input failed\n"),
         (End::OutFault, "end output failed\n"),
         (End::NoMemory, "end no memory\n"),
@@ -99,8 +105,20 @@ fn nothing_follows_a_call_that_failed(rt: HostRuntime) -> Result<(), Fail> {
 #[test]
 fn refused_pages_have_addresses(rt: HostRuntime) -> Result<(), Fail> {
     let geometry = Geometry { base: 16, pages: 9 };
-    let refusal = NoSpace { page: PageNo(8), order: 0 };
-    assert_eq!(rt; End::space(geometry, refusal, [0, 2, 0, 4_294_967_295]), SPACE);
-    assert_eq!(rt; End::no_room(geometry, refusal), End::NoRoom { at: 0x1_8000, order: 0 });
+    let refusal = NoSpace {
+        page: PageNo(8),
+        order: 0,
+    };
+    assert_eq!(rt;
+        End::space(geometry, refusal, [0, 2, 0, 4_294_967_295]),
+        SPACE
+    );
+    assert_eq!(rt;
+        End::no_room(geometry, refusal),
+        End::NoRoom {
+            at: 0x1_8000,
+            order: 0
+        }
+    );
     Ok(())
 }
