@@ -1,1 +1,3 @@
+pub mod Json
+pub mod ReportLines
 pub mod Texts

@@ -1,13 +1,17 @@
--- The lines that a note has of a run: how it ended, and how many instructions retired.
+-- The lines that tell of an end, and of how many instructions retired.
 use Rattle.std.specs.Prelude.{ℕ, ◌+◌, ◌*◌, ◌/◌, ◌%◌, ◌^◌, List, [], ◌∷◌, ◌++◌, map, nat_lt, if◌then◌else◌, Option, Some, None, codes, decimal}
 use Rattle.std.specs.List.{flat_map}
 use Rattle.hier_types.specs.Span.{Span}
 use Rattle.elf_image.specs.declared.fault.ImageKind.{ImageKind}
 use Rattle.elf_image.specs.declared.fault.ImageKind.TheVariants as kind
+use Rattle.hier_types.specs.declared.settings.SettingName.{SettingName}
+use Rattle.hier_types.specs.declared.settings.SettingName.TheVariants as setting
+use Rattle.trace_reader.specs.declared.fault.TraceKind.{TraceKind}
+use Rattle.trace_reader.specs.declared.fault.TraceKind.TheVariants as row
 use Rattle.run_report.specs.declared.end.End.{End}
-use Rattle.run_report.specs.declared.end.End.TheVariants.{Exit, FileFault, TooLong, BadImage, Trap, Budget, Space, NoRoom, InFault, OutFault, NoteFault, NoMemory, NotBuilt}
+use Rattle.run_report.specs.declared.end.End.TheVariants.{Done, Exit, Usage, Setting, FileFault, TooLong, BadImage, BadTrace, Trap, Budget, Space, NoRoom, InFault, OutFault, NoteFault, NoMemory, NotBuilt}
 use Rattle.run_report.specs.declared.end.Part.{Part}
-use Rattle.run_report.specs.declared.end.Part.TheVariants.{Words}
+use Rattle.run_report.specs.declared.end.Part.TheVariants.{Command}
 
 -- the hexadecimal digit of a number below 16: 0 to 9, and then a to f
 abbrev pub hex_digit : ℕ → ℕ
@@ -41,6 +45,33 @@ kind_name kind.AddressRange = codes "AddressRange"
 kind_name kind.Overlap = codes "Overlap"
 kind_name kind.NoMemory = codes "NoMemory"
 
+-- the name of what is wrong with a row of a trace
+abbrev pub trace_kind_name : TraceKind → List ℕ
+trace_kind_name row.Long = codes "Long"
+trace_kind_name row.Word = codes "Word"
+trace_kind_name row.Fields = codes "Fields"
+trace_kind_name row.Number = codes "Number"
+trace_kind_name row.Width = codes "Width"
+trace_kind_name row.Value = codes "Value"
+trace_kind_name row.Align = codes "Align"
+trace_kind_name row.Range = codes "Range"
+
+-- the name of a setting, as its option has it
+abbrev pub setting_name : SettingName → List ℕ
+setting_name setting.Command = codes "command"
+setting_name setting.Base = codes "base"
+setting_name setting.Pages = codes "pages"
+setting_name setting.Frames = codes "frames"
+setting_name setting.Codec = codes "codec"
+setting_name setting.L1Sets = codes "l1-sets"
+setting_name setting.L1Ways = codes "l1-ways"
+setting_name setting.L2Sets = codes "l2-sets"
+setting_name setting.L2Ways = codes "l2-ways"
+setting_name setting.Meta = codes "meta"
+setting_name setting.Budget = codes "budget"
+setting_name setting.Beats = codes "beats"
+setting_name setting.Number = codes "number"
+
 -- a program header's number, or that there is none
 abbrev pub header_text : Option ℕ → List ℕ
 header_text None = codes "-"
@@ -48,7 +79,7 @@ header_text (Some number) = decimal number
 
 -- the word of what is not built
 abbrev pub part_name : Part → List ℕ
-part_name Words = codes "words"
+part_name Command = codes "command"
 
 -- a count behind a space
 abbrev pub count_text : ℕ → List ℕ
@@ -59,10 +90,14 @@ counts_text counts = flat_map count_text counts
 
 -- what is told of an end; of a note that failed nothing can be told
 abbrev pub end_text : End → List ℕ
+end_text Done = codes "done"
 end_text (Exit status) = codes "exit " ++ decimal status
+end_text Usage = codes "usage: hiersim COMMAND FILE [options]"
+end_text (Setting name) = codes "bad setting " ++ setting_name name
 end_text FileFault = codes "file failed"
 end_text TooLong = codes "file too long"
 end_text (BadImage fault) = codes "bad image " ++ kind_name fault.kind ++ codes " " ++ header_text fault.header
+end_text (BadTrace fault) = codes "bad trace " ++ decimal fault.line ++ codes " " ++ trace_kind_name fault.kind
 end_text (Trap cause pc value) = codes "trap " ++ decimal cause ++ codes " " ++ address pc ++ codes " " ++ address value
 end_text Budget = codes "budget"
 end_text (Space at order free) = codes "space " ++ address at ++ codes " " ++ decimal order ++ codes " free" ++ counts_text free

@@ -4,21 +4,30 @@ ghost use Rattle.run_report.specs.declared.end.End.TheVariants.{NoRoom, Space};
 ghost use Rattle.run_report.specs.Texts.{page_address};
 
 use elf_image::ImageFault;
-use hier_types::{Geometry, NoSpace, PAGE_BYTES, PageNo};
+use hier_types::{Geometry, NoSpace, PAGE_BYTES, PageNo, SettingName};
+use trace_reader::TraceFault;
 
 /// What is not built yet.
 #[derive(Clone, Copy, Debug, PartialEq, Eq)]
 pub enum Part {
-    /// The words ask for more than `run` and a file.
-    Words,
+    /// The command that the words name.
+    Command,
 }
 
-/// How a run ends.
+/// How the work ends.
 #[derive(Clone, Copy, Debug, PartialEq, Eq)]
 pub enum End {
+    /// The work that is no run came to its end.
+    Done,
     /// The guest exited with this status.
     Exit {
         status: u32,
+    },
+    /// The words are no command line.
+    Usage,
+    /// This setting is the first one whose value breaks its rule.
+    Setting {
+        name: SettingName,
     },
     /// The shelf failed, or has no file of the name.
     FileFault,
@@ -28,6 +37,10 @@ pub enum End {
     BadImage {
         fault: ImageFault,
     },
+    /// The file is no trace for the guest's span.
+    BadTrace {
+        fault: TraceFault,
+    },
     /// An instruction trapped. Causes and values are those of `mcause` and `mtval` (RISC-V privileged manual).
     Trap {
         cause: u8,
@@ -35,7 +48,7 @@ pub enum End {
         pc: u32,
         value: u32,
     },
-    /// As many instructions retired as the budget allows.
+    /// As many instructions retired, or accesses were made, as the budget allows.
     Budget,
     /// A page outgrew its block, and no free place holds one of the order that it wants.
     Space {
@@ -54,7 +67,7 @@ pub enum End {
     },
     /// The input failed at a read of the guest.
     InFault,
-    /// The output failed at a write of the guest.
+    /// The output failed at a write of the guest, or while a result was printed.
     OutFault,
     /// The note failed. It takes the place of the end that was to be noted.
     NoteFault,

@@ -1,13 +1,22 @@
-//! How a run ends, and the note that tells of it. Contracts see an end as a value, and the note as its bytes.
-//! It decides no end, takes no memory, and writes nothing after a call of the note that failed.
+//! How the work ends, what was counted on the way, and the texts that tell of it. Contracts see an end and a report as
+//! values, and a text as its bytes. It decides no end and counts nothing, takes memory for JSON alone, and writes nothing
+//! after a call that failed.
 #![tactic(auto)]
 
 mod end;
+mod json;
 mod names;
 mod note;
+mod report;
+mod report_lines;
+mod survey_lines;
 #[cfg(test)]
 mod tests;
 mod text_line;
 
 pub use end::{End, Part};
+pub use json::to_json;
 pub use note::write_end;
+pub use report::{Counts, Report, Settled};
+pub use report_lines::write_text;
+pub use survey_lines::write_survey;
