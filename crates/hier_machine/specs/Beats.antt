@@ -2,6 +2,7 @@
 use Rattle.std.specs.Prelude.{◌≡◌, Bool, true, false, Option, Some, None}
 use Rattle.hier_types.specs.declared.beats.Beat.{Beat}
 use Rattle.hier_types.specs.declared.beats.Beat.TheVariants.{Hart, Mover, Cleaner}
+use Rattle.hier_types.specs.Causes.{raised}
 use Rattle.hier_types.specs.PortCalls.{MadeInOrder}
 use Rattle.sys_shim.specs.Streams.{AreUntouched, Streams}
 use Rattle.rv_guest.specs.declared.ends.MachineEnd.{MachineEnd}
@@ -17,6 +18,11 @@ pub record Stays (old new : State) : Type 0 where
   pub budget : new.budget ≡ old.budget
   pub beats : new.beats ≡ old.beats
 
+-- what no beat of the hart changes
+pub record TurnsStay (old new : State) : Type 0 where
+  pub mover : new.mover_turns ≡ old.mover_turns
+  pub cleaner : new.cleaner_turns ≡ old.cleaner_turns
+
 -- a beat that answers an end ends the machine
 abbrev pub is_end : Option MachineEnd → Bool
 is_end None = false
@@ -29,10 +35,11 @@ pub record HartBeats (old : State) (result : Option MachineEnd) (new : State) (s
   pub made : MadeInOrder TouchMemory PokeMemory old.memory (lines_at old.memory.span old.guest) (pokes_at old.memory.span old.guest result new.guest.hart) (stop_of result) new.memory
   pub cause : IsJustified (store_of old.memory).stops (store_of new.memory).stops (Crowded (store_of new.memory)) result
   pub stays : Stays old new
+  pub turns : TurnsStay old new
   pub ended : new.ended ≡ is_end result
 
--- a beat of the mover or the cleaner changes nothing
+-- a beat of the mover or the cleaner is counted, and changes nothing else
 abbrev pub Beats : Beat → State → Option MachineEnd → State → Streams → Type 0
 Beats Hart old result new streams = HartBeats old result new streams
-Beats Mover old result new streams = (result ≡ None) × (new ≡ old) × AreUntouched streams
-Beats Cleaner old result new streams = (result ≡ None) × (new ≡ old) × AreUntouched streams
+Beats Mover old result new streams = (result ≡ None) × (new ≡ record old { mover_turns = raised old.mover_turns }) × AreUntouched streams
+Beats Cleaner old result new streams = (result ≡ None) × (new ≡ record old { cleaner_turns = raised old.cleaner_turns }) × AreUntouched streams

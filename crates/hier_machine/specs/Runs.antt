@@ -19,7 +19,7 @@ Passed start (suc count) now = (mid : State) × (beat : Beat) × (streams : Stre
 
 -- the budget is used up after the passed beats, or the next beat ends the machine
 abbrev pub LastBeat : State → ℕ → State → MachineEnd → State → Type 0
-LastBeat start count last Budget new = new ≡ record { memory = last.memory; guest = last.guest; budget = last.budget; beats = last.beats; ended = true }
+LastBeat start count last Budget new = new ≡ record last { ended = true }
 LastBeat start count last end new = (beat : Beat) × (streams : Streams) × IsBeat start.beats count beat × Beats beat last (Some end) new streams
 
 -- the states of a machine from one beat to the next, up to the end

@@ -5,7 +5,7 @@ use Rattle.hier_types.specs.Span.{Span}
 use Rattle.elf_image.specs.Image.{entry, end_of, memory_of}
 use Rattle.sys_shim.specs.Flat.{Flat}
 use Rattle.rv_guest.specs.State as guest
-use Rattle.page_store.specs.Store.{Store}
+use Rattle.page_store.specs.Store.{Store, fresh}
 use Rattle.hier_machine.specs.Memory.{Memory, store_of}
 use Rattle.hier_machine.specs.Placed.{PlacedUpTo}
 use Rattle.hier_machine.specs.State.{State}
@@ -37,6 +37,19 @@ pub record Starts (settings : Settings) (file : List ℕ) (s : State) : Type 0 w
   pub guest : s.guest ≡ start_guest settings.geometry file
   pub budget : s.budget ≡ settings.budget
   pub beats : s.beats ≡ settings.beats
+  pub mover : s.mover_turns ≡ 0
+  pub cleaner : s.cleaner_turns ≡ 0
+  pub running : s.ended ≡ false
+
+-- A machine for a trace begins with zeros, and its guest makes no instruction.
+pub record StartsEmpty (settings : Settings) (s : State) : Type 0 where
+  pub memory : s.memory ≡ start_memory settings (fresh settings.codec settings.geometry.pages settings.frames)
+  pub bytes : s.guest.hart.bytes ≡ replicate (4096 * settings.geometry.pages) 0
+  pub retired : s.guest.retired ≡ 0
+  pub budget : s.budget ≡ settings.budget
+  pub beats : s.beats ≡ settings.beats
+  pub mover : s.mover_turns ≡ 0
+  pub cleaner : s.cleaner_turns ≡ 0
   pub running : s.ended ≡ false
 
 -- the flat state that the program in a file begins in

@@ -1,23 +1,30 @@
 // The guest over its memory, beat by beat.
 ghost use Rattle.std.specs.Prelude.{◌≡◌, ◌*◌, ◌-◌, ◌^◌, ◌<◌, ◌≤◌, false, IfErr, IfOk, length, take, drop};
 ghost use Rattle.hier_types.specs.Settings.{AreWithinRules};
+ghost use Rattle.rv_core.specs.Accesses.{IsAccess};
 ghost use Rattle.sys_shim.specs.Streams.{FaultsStay, stream, streams};
+ghost use Rattle.hier_machine.specs.Accesses.{AccessBeats};
 ghost use Rattle.hier_machine.specs.Beats.{Beats, HartBeats};
 ghost use Rattle.hier_machine.specs.Placed.{IsOpenFault};
 ghost use Rattle.hier_machine.specs.Runs.{Runs};
+ghost use Rattle.hier_machine.specs.Settles.{Reports, SettlesMachine, counts_of};
 ghost use Rattle.hier_machine.specs.Spaces.{AreFreeCounts, IsSpaceEnd};
-ghost use Rattle.hier_machine.specs.Start.{Starts, start_memory};
+ghost use Rattle.hier_machine.specs.Start.{Starts, StartsEmpty, start_memory};
+ghost use Rattle.run_report.specs.ReportLines.{HasBlocksIfDone};
 
 use crate::ends::OpenFault;
-use crate::opening::place_image;
+use crate::errands::{FlushSecond, Placing, Through};
 use crate::page_view::view_page;
 use elf_image::Image;
-use hier_types::{Beat, BeatWord, Layer, NoMemory, NoSpace, PageNo, Port, Settings, Sink, Source};
+use hier_types::{
+    Access, Beat, BeatWord, Layer, NoMemory, NoSpace, PageCounts, PageNo, Port, Settings, Sink,
+    Source,
+};
 use l1_cache::L1;
 use l2_cache::L2;
 use page_store::Pages;
-use run_report::End;
-use rv_core::Regs;
+use run_report::{Counts, End, Report, Settled};
+use rv_core::{Regs, access};
 use rv_guest::{Guest, MachineEnd};
 use std::alloc::Global;
 use std::marker::Model;
@@ -29,6 +36,8 @@ pub struct Machine {
     guest: Guest,
     budget: u64,
     beats: BeatWord,
+    mover_turns: u64,
+    cleaner_turns: u64,
     ended: bool,
 }
 
@@ -44,6 +53,8 @@ impl Model for Machine {
       guest = state_of m.guest (bytes_of m.memory);
       budget = m.budget;
       beats = m.beats;
+      mover_turns = m.mover_turns;
+      cleaner_turns = m.cleaner_turns;
       ended = m.ended;
     } };
 }
@@ -57,26 +68,51 @@ impl Machine {
         ensures ok { IfOk result (Starts settings.now image.now.file) }
         ensures err { IfErr result (IsOpenFault image.now settings.now.codec settings.now.frames) }
     {
-        let geometry = settings.geometry;
-        let Ok(beats) = settings.beats.clone() else {
+        let guest = Guest::start(image.entry(), image.end(), &settings.geometry);
+        let Ok(mut machine) = Machine::over_zeros(alloc, settings, guest) else {
             return Err(OpenFault::NoMemory);
         };
-        let Ok(mut store) = Pages::new(alloc, geometry, settings.frames, settings.codec) else {
-            return Err(OpenFault::NoMemory);
-        };
-        if let Err(refusal) = place_image(&mut store, image, geometry.pages) {
+        if let Err(refusal) = machine.place(image) {
             return Err(OpenFault::NoRoom(refusal));
         }
-        let Ok(memory) = levels_over(alloc, store, settings) else {
-            return Err(OpenFault::NoMemory);
-        };
+        Ok(machine)
+    }
+
+    /// A machine for a trace: its memory is zeros, and its guest makes no instruction.
+    pub fn open_empty(alloc: Global, settings: &Settings) -> Result<Self, NoMemory>
+        requires { AreWithinRules settings.now }
+        ensures { IfOk result (StartsEmpty settings.now) }
+    {
+        let first = settings.geometry.first();
+        let guest = Guest::start(first, first, &settings.geometry);
+        Machine::over_zeros(alloc, settings, guest)
+    }
+
+    /// A machine with all its memory, whose pages are zero, and this guest.
+    fn over_zeros(alloc: Global, settings: &Settings, guest: Guest) -> Result<Self, NoMemory>
+        requires { AreWithinRules settings.now }
+        // NEEDS A CLAUSE
+    {
+        let beats = settings.beats.clone()?;
+        let store = Pages::new(alloc, settings.geometry, settings.frames, settings.codec)?;
         Ok(Machine {
-            memory,
-            guest: Guest::start(image.entry(), image.end(), &geometry),
+            memory: levels_over(alloc, store, settings)?,
+            guest,
             budget: settings.budget,
             beats,
+            mover_turns: 0,
+            cleaner_turns: 0,
             ended: false,
         })
+    }
+
+    /// Places the pages of the image that are not zero, in rising order, while no level keeps a line.
+    fn place(&mut self, image: &Image) -> Result<(), NoSpace>
+        // NEEDS CLAUSES
+    {
+        let mut placing = Through::new(Placing::new(image));
+        self.memory.below_do(&mut placing);
+        placing.errand.answer
     }
 
     /// The registers.
@@ -95,7 +131,29 @@ impl Machine {
         End::space(self.memory.span(), refusal, free)
     }
 
-    /// How many instructions retired.
+    /// The memory of pages.
+    pub fn pages(&self) -> &Pages
+        ensures { result.now ≡ self.now.memory.below.below }
+    {
+        self.memory.below().below()
+    }
+
+    /// What both levels, the memory of pages and the turns of the mover and the cleaner have counted.
+    pub fn counts(&self) -> Counts
+        ensures { result ≡ counts_of self.now }
+    {
+        Counts {
+            l1: self.memory.counts(),
+            l2: self.memory.below().counts(),
+            pages: PageCounts {
+                mover_turns: self.mover_turns,
+                ..self.pages().counts()
+            },
+            cleaner_turns: self.cleaner_turns,
+        }
+    }
+
+    /// How many instructions retired, or accesses were made.
     pub fn retired(&self) -> u64
         ensures { result ≡ self.now.guest.retired }
     {
@@ -120,8 +178,8 @@ impl Machine {
         view_page(&self.memory, page, into);
     }
 
-    /// One beat. The hart makes one instruction; the mover and the cleaner have nothing to do yet. A beat that
-    /// answers an end ends the machine.
+    /// One beat. The hart makes one instruction. A turn of the mover or of the cleaner is counted: every page is at its
+    /// least layout already, and nothing is cleaned yet. A beat that answers an end ends the machine.
     pub fn beat<I: Source, O: Sink>(
         &mut self,
         beat: Beat,
@@ -135,8 +193,62 @@ impl Machine {
     {
         match beat {
             Beat::Hart => self.hart_beat(input, out),
-            Beat::Mover => None,
-            Beat::Cleaner => None,
+            Beat::Mover => {
+                self.mover_turns = self.mover_turns.saturating_add(1);
+                None
+            }
+            Beat::Cleaner => {
+                self.cleaner_turns = self.cleaner_turns.saturating_add(1);
+                None
+            }
+        }
+    }
+
+    /// The hart's beat of a trace: one access, which gives the value that it loads, or 0 for a store. It counts like an
+    /// instruction, and touches one line.
+    pub fn beat_access(&mut self, access_made: &Access) -> Result<u32, NoSpace>
+        requires access { IsAccess self.old.memory.span access_made.now }
+        requires room { self.old.guest.retired < 2 ^ 64 - 1 }
+        ensures { AccessBeats self.old access_made.now result self.new }
+    {
+        let value = match access(&mut self.memory, access_made) {
+            Ok(value) => value,
+            Err(refusal) => return Err(refusal),
+        };
+        self.guest.retired += 1;
+        Ok(value)
+    }
+
+    /// Writes every changed line down to the pages: those of the first level to the second, and then those of the second
+    /// to the store. It stops at the first one that is refused. No byte of the guest changes.
+    pub fn settle(&mut self) -> Result<(), NoSpace>
+        ensures { SettlesMachine self.old result self.new }
+    {
+        if let Err(refusal) = self.memory.flush() {
+            return Err(refusal);
+        }
+        let mut flush = FlushSecond::new();
+        self.memory.below_do(&mut flush);
+        flush.answer
+    }
+
+    /// The report of a run or a trace that came to this end: its counts as they stand now, and then what the pages take
+    /// once every changed line was written down to them.
+    pub fn report(&mut self, end: End) -> Report
+        ensures reports { Reports self.old end result self.new }
+        ensures blocks { HasBlocksIfDone result.settled }
+    {
+        let retired = self.retired();
+        let counts = self.counts();
+        let settled = match self.settle() {
+            Ok(()) => Settled::Done(self.pages().totals()),
+            Err(refusal) => Settled::Space(refusal),
+        };
+        Report {
+            end,
+            retired,
+            counts,
+            settled,
         }
     }
 

@@ -1,0 +1,72 @@
+-- What writing every changed line down to the pages does, and the report that follows it.
+use Rattle.std.specs.Prelude.{◌≡◌, ℕ, List, Result, Ok, Err, OnOk, MatchResult}
+use Rattle.hier_types.specs.Calls.{Answer, Makes}
+use Rattle.hier_types.specs.Causes.{Refuses}
+use Rattle.hier_types.specs.declared.faults.NoSpace.{NoSpace}
+use Rattle.page_plan.specs.Sizes.{sizes_of_memory}
+use Rattle.page_store.specs.Calls.{StoreRead, StoreWrite}
+use Rattle.page_store.specs.Crowds.{Crowded}
+use Rattle.recency.specs.Steps.{Flushes}
+use Rattle.run_report.specs.declared.end.End.{End}
+use Rattle.run_report.specs.declared.report.Counts.{Counts}
+use Rattle.run_report.specs.declared.report.Report.{Report}
+use Rattle.run_report.specs.declared.report.Settled.{Settled}
+use Rattle.run_report.specs.declared.report.Settled.TheVariants.{Done, Space}
+use Rattle.hier_machine.specs.Memory.{Below, BelowRead, BelowWrite, Memory, lines_of, store_of}
+use Rattle.hier_machine.specs.State.{State}
+
+-- The first level writes its dirty lines to the second, by rising sets, least recent first.
+pub record FlushesFirst (old : Memory) (answer : Answer) (new : Memory) : Type 0 where
+  pub did : Makes BelowRead BelowWrite old.below (Flushes answer new.sets old.sets) new.below
+  pub held : new.held ≡ old.held
+  pub counts : new.counts ≡ old.counts
+  pub span : new.span ≡ old.span
+
+-- The second level does the same to the store.
+pub record FlushesBelow (old : Below) (answer : Answer) (new : Below) : Type 0 where
+  pub did : Makes StoreRead StoreWrite old.below (Flushes answer new.sets old.sets) new.below
+  pub codec : new.codec ≡ old.codec
+  pub cursor : new.cursor ≡ old.cursor
+  pub counts : new.counts ≡ old.counts
+
+abbrev pub FlushesSecond : Memory → Answer → Memory → Type 0
+FlushesSecond old answer new = (new ≡ record old { below = new.below }) × FlushesBelow old.below answer new.below
+
+-- The first level is flushed, and then the second, up to a write that is refused. No byte of the guest changes, and where
+-- nothing was refused the pages have them all.
+pub record Settles (old : Memory) (answer : Answer) (new : Memory) : Type 0 where
+  pub mid : Memory
+  pub first : Answer
+  pub flushes : FlushesFirst old first mid
+  pub goes_on : MatchResult first (λ _. FlushesSecond mid answer new) (λ refusal. (answer ≡ Err refusal) × (new ≡ mid))
+  pub lines : lines_of new ≡ lines_of old
+  pub cause : Refuses (store_of old).stops (store_of new).stops (Crowded (store_of new)) answer
+  pub settled : OnOk answer ((store_of new).lines ≡ lines_of old)
+
+-- the machine settles, and all but its memory stays
+pub record SettlesMachine (old : State) (answer : Answer) (new : State) : Type 0 where
+  pub settles : Settles old.memory answer new.memory
+  pub rest : new ≡ record old { memory = new.memory }
+
+-- what both levels, the store and the turns have counted
+abbrev pub counts_of : State → Counts
+counts_of s = record {
+  l1 = s.memory.counts;
+  l2 = s.memory.below.counts;
+  pages = record (store_of s.memory).counts { mover_turns = s.mover_turns };
+  cleaner_turns = s.cleaner_turns;
+}
+
+-- the totals of the guest's memory at its plans, or the refusal
+abbrev pub SettledAs : State → Answer → Settled → Type 0
+SettledAs s (Ok u) settled = settled ≡ Done (sizes_of_memory (store_of s.memory).codec (lines_of s.memory))
+SettledAs s (Err refusal) settled = settled ≡ Space refusal
+
+-- The report has the counts as they stood, and what the settling came to.
+pub record Reports (old : State) (end : End) (report : Report) (new : State) : Type 0 where
+  pub answer : Answer
+  pub settles : SettlesMachine old answer new
+  pub settled : SettledAs old answer report.settled
+  pub end_is : report.end ≡ end
+  pub retired : report.retired ≡ old.guest.retired
+  pub counts : report.counts ≡ counts_of old
