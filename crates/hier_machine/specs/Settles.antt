@@ -1,17 +1,11 @@
--- What writing every changed line down to the pages does, and the report that follows it.
+-- What writing every changed line down to the pages does.
 use Rattle.std.specs.Prelude.{◌≡◌, ℕ, List, Result, Ok, Err, OnOk, MatchResult}
 use Rattle.hier_types.specs.Calls.{Answer, Makes}
 use Rattle.hier_types.specs.Causes.{Refuses}
 use Rattle.hier_types.specs.declared.faults.NoSpace.{NoSpace}
-use Rattle.page_plan.specs.Sizes.{sizes_of_memory}
 use Rattle.page_store.specs.Calls.{StoreRead, StoreWrite}
 use Rattle.page_store.specs.Crowds.{Crowded}
 use Rattle.recency.specs.Steps.{Flushes}
-use Rattle.run_report.specs.declared.end.End.{End}
-use Rattle.run_report.specs.declared.report.Counts.{Counts}
-use Rattle.run_report.specs.declared.report.Report.{Report}
-use Rattle.run_report.specs.declared.report.Settled.{Settled}
-use Rattle.run_report.specs.declared.report.Settled.TheVariants.{Done, Space}
 use Rattle.hier_machine.specs.Memory.{Below, BelowRead, BelowWrite, Memory, lines_of, store_of}
 use Rattle.hier_machine.specs.State.{State}
 
@@ -47,26 +41,3 @@ pub record Settles (old : Memory) (answer : Answer) (new : Memory) : Type 0 wher
 pub record SettlesMachine (old : State) (answer : Answer) (new : State) : Type 0 where
   pub settles : Settles old.memory answer new.memory
   pub rest : new ≡ record old { memory = new.memory }
-
--- what both levels, the store and the turns have counted
-abbrev pub counts_of : State → Counts
-counts_of s = record {
-  l1 = s.memory.counts;
-  l2 = s.memory.below.counts;
-  pages = record (store_of s.memory).counts { mover_turns = s.mover_turns };
-  cleaner_turns = s.cleaner_turns;
-}
-
--- the totals of the guest's memory at its plans, or the refusal
-abbrev pub SettledAs : State → Answer → Settled → Type 0
-SettledAs s (Ok u) settled = settled ≡ Done (sizes_of_memory (store_of s.memory).codec (lines_of s.memory))
-SettledAs s (Err refusal) settled = settled ≡ Space refusal
-
--- The report has the counts as they stood, and what the settling came to.
-pub record Reports (old : State) (end : End) (report : Report) (new : State) : Type 0 where
-  pub answer : Answer
-  pub settles : SettlesMachine old answer new
-  pub settled : SettledAs old answer report.settled
-  pub end_is : report.end ≡ end
-  pub retired : report.retired ≡ old.guest.retired
-  pub counts : report.counts ≡ counts_of old
