@@ -3,7 +3,12 @@
 #![tactic(auto)]
 
 mod adapters;
+mod flat_runs;
+mod images;
+mod notice;
+mod runs;
 mod status;
+mod surveys;
 #[cfg(test)]
 mod tests;
 mod top;

@@ -1,8 +1,7 @@
 // How the program ends, and with which code.
 ghost use Rattle.std.specs.Prelude.{◌≡◌};
-ghost use Rattle.hier_cli.specs.Top.{IsEndOf, code_of};
+ghost use Rattle.hier_cli.specs.Notices.{code_of};
 
-use hier_machine::{Machine, MachineEnd};
 use run_report::End;
 
 /// The end and the exit code. `docs/FORMATS.md` has the code and the cause of each end.
@@ -19,10 +18,14 @@ impl Status {
         ensures code { result.code ≡ code_of end }
     {
         let code = match end {
+            End::Done => 0,
             End::Exit { status } => (status % 256) as u8,
+            End::Usage => 200,
+            End::Setting { .. } => 201,
             End::FileFault => 202,
             End::TooLong => 203,
             End::BadImage { .. } => 204,
+            End::BadTrace { .. } => 205,
             End::Trap { .. } => 206,
             End::Budget => 207,
             End::Space { .. } => 208,
@@ -34,19 +37,5 @@ impl Status {
             End::NotBuilt { .. } => 214,
         };
         Status { end, code }
-    }
-}
-
-/// The end of a machine's run.
-pub(crate) fn end_of_machine(machine: &Machine, end: MachineEnd) -> End
-    ensures { IsEndOf machine.now.memory end result }
-{
-    match end {
-        MachineEnd::Exit(status) => End::Exit { status },
-        MachineEnd::Trap { cause, pc, value } => End::Trap { cause, pc, value },
-        MachineEnd::Budget => End::Budget,
-        MachineEnd::Space(refusal) => machine.space(refusal),
-        MachineEnd::InFault => End::InFault,
-        MachineEnd::OutFault => End::OutFault,
     }
 }

@@ -1,103 +1,84 @@
 // The program, over whatever stands outside of it.
-ghost use Rattle.std.specs.Prelude.{◌≡◌, option_map};
+ghost use Rattle.std.specs.Prelude.{◌≡◌, IfErr, IfOk, string_bytes};
+ghost use Rattle.hier_types.specs.Settings.{AreWithinRules};
 ghost use Rattle.sys_shim.specs.Streams.{stream, streams};
-ghost use Rattle.hier_cli.specs.Top.{EndsFile, Finishes, HasEndCause, code_of, named_file};
+ghost use Rattle.hier_cli.specs.Files.{IsLoaded, IsLoadEnd, outside, shelf_use};
+ghost use Rattle.hier_cli.specs.Notices.{IsTellable, code_of};
+ghost use Rattle.hier_cli.specs.Requests.{Answered, Obeys, notice_of};
+ghost use Rattle.hier_cli.specs.Top.{Finishes};
 
-use crate::status::{Status, end_of_machine};
-use elf_image::{ImageKind, read_image};
-use hier_machine::{Machine, OpenFault};
-use hier_types::{Settings, Shelf, ShelfFault, Sink, Source};
-use run_report::{End, Part, write_end};
+use crate::flat_runs::run_flat;
+use crate::images::run_for_image;
+use crate::notice::{Notice, write_notice};
+use crate::runs::{run_demo, run_file};
+use crate::status::Status;
+use crate::surveys::{survey_file, write_demo};
+use hier_types::{Shelf, ShelfFault, Sink, Source};
+use run_report::{End, Part};
+use sim_words::{Command, Request, WordsFault, read_words};
 use std::alloc::Global;
 use std::thread::Threads;
 
 /// The most bytes that a file may have.
 const FILE_LIMIT: u64 = 67_108_864;
 
-/// How the work ended, and how many instructions retired where a machine was opened.
-#[derive(Drop)]
-struct Outcome {
-    end: End,
-    retired: Option<u64>,
-}
-
-impl Outcome {
-    /// An end before a machine was opened.
-    fn before_run(end: End) -> Self
-        ensures { result ≡ record { end = end; retired = None } }
-    {
-        Outcome { end, retired: None }
-    }
-}
-
-/// The name of the file that the words ask to run.
-fn file_to_run(words: &[String]) -> Option<&str>
-    ensures { option_map (λ name. name.now) result ≡ named_file words.now }
+/// The bytes of a file.
+fn load<S: Shelf>(alloc: Global, shelf: &mut S, name: &str) -> Result<Vec<u8>, End>
+    ensures ok { IfOk result (λ file. IsLoaded (shelf_use (S.files shelf.old) (S.faults shelf.old) (S.faults shelf.new)) name.now file.items) }
+    ensures err { IfErr result (IsLoadEnd (shelf_use (S.files shelf.old) (S.faults shelf.old) (S.faults shelf.new)) name.now) }
 {
-    match words {
-        [command, file] if command.as_str() == "run" => Some(file.as_str()),
-        _ => None,
+    match shelf.load(alloc, name, FILE_LIMIT) {
+        Ok(file) => Ok(file),
+        Err(ShelfFault::Failed) => Err(End::FileFault),
+        Err(ShelfFault::TooLong) => Err(End::TooLong),
+        Err(ShelfFault::NoMemory) => Err(End::NoMemory),
     }
 }
 
-/// Runs the program in a file's bytes.
-fn run_file<I: Source, O: Sink>(alloc: Global, file: Vec<u8>, input: &mut I, out: &mut O) -> Outcome
-    ensures { EndsFile file.items (streams (stream (I.left input.old) (I.left input.new) (I.faults input.old) (I.faults input.new)) (stream (O.written out.old) (O.written out.new) (O.faults out.old) (O.faults out.new))) result.end result.retired }
-{
-    let settings = Settings::default();
-    let image = match read_image(alloc, file, settings.geometry) {
-        Ok(image) => image,
-        Err(fault) if fault.kind == ImageKind::NoMemory => {
-            return Outcome::before_run(End::NoMemory);
-        }
-        Err(fault) => return Outcome::before_run(End::BadImage { fault }),
-    };
-    let mut machine = match Machine::open(alloc, &settings, &image) {
-        Ok(machine) => machine,
-        Err(OpenFault::NoMemory) => return Outcome::before_run(End::NoMemory),
-        Err(OpenFault::NoRoom(refusal)) => {
-            return Outcome::before_run(End::no_room(settings.geometry, refusal));
-        }
-    };
-    let end = machine.run(input, out);
-    Outcome {
-        end: end_of_machine(&machine, end),
-        retired: Some(machine.retired()),
-    }
-}
-
-/// Does what the words ask for, but for the note.
-fn run_words<S: Shelf, I: Source, O: Sink>(
+/// Does what a request asks for, but for the note. An end alone comes where its file was not loaded.
+fn obey<R: Threads + Sync, S: Shelf, I: Source, O: Sink>(
+    rt: &R,
     alloc: Global,
-    words: &[String],
+    request: &Request,
     shelf: &mut S,
     input: &mut I,
     out: &mut O,
-) -> Outcome
-    ensures { HasEndCause words.now (record {
-      files = S.files shelf.old;
-      faults_before = S.faults shelf.old;
-      faults_now = S.faults shelf.new;
-      streams = (streams (stream (I.left input.old) (I.left input.new) (I.faults input.old) (I.faults input.new)) (stream (O.written out.old) (O.written out.new) (O.faults out.old) (O.faults out.new)));
-    }) result.end result.retired }
+) -> Result<Notice, End>
+    requires { AreWithinRules request.now.settings }
+    ensures obeys { Obeys request.now.command (string_bytes request.now.file) request.now.settings
+        (outside (shelf_use (S.files shelf.old) (S.faults shelf.old) (S.faults shelf.new)) (streams (stream (I.left input.old) (I.left input.new) (I.faults input.old) (I.faults input.new)) (stream (O.written out.old) (O.written out.new) (O.faults out.old) (O.faults out.new)))) (notice_of result) }
+    ensures tellable { IsTellable (notice_of result) }
 {
-    let Some(name) = file_to_run(words) else {
-        return Outcome::before_run(End::NotBuilt { part: Part::Words });
-    };
-    match shelf.load(alloc, name, FILE_LIMIT) {
-        Ok(file) => run_file(alloc, file, input, out),
-        Err(ShelfFault::Failed) => Outcome::before_run(End::FileFault),
-        Err(ShelfFault::TooLong) => Outcome::before_run(End::TooLong),
-        Err(ShelfFault::NoMemory) => Outcome::before_run(End::NoMemory),
+    let settings = &request.settings;
+    let name = request.file.as_str();
+    match request.command {
+        Command::Run => Ok(run_file(alloc, load(alloc, shelf, name)?, settings, input, out)),
+        Command::Image => Ok(run_for_image(alloc, load(alloc, shelf, name)?, settings, input, out)),
+        Command::Flat => Ok(run_flat(alloc, load(alloc, shelf, name)?, settings, input, out)),
+        Command::Survey => Ok(survey_file(rt, alloc, &load(alloc, shelf, name)?, settings.codec, out)),
+        Command::Gen { number } => Ok(write_demo(alloc, number, out)),
+        Command::Demo { number } => Ok(run_demo(alloc, number, settings, input, out)),
+        Command::Layout | Command::Trace => Err(End::NotBuilt {
+            part: Part::Command,
+        }),
     }
 }
 
-/// Does what the words after the program's name ask for: `run FILE` runs the program in the file over the memory
-/// hierarchy. Output, end and what is taken of the input are those of the same instructions over flat memory, where
-/// the shelf, the input and the output tell their bytes. The end and the number of instructions that retired are
-/// written to the note.
+/// The end of words that make no request.
+fn end_of_words(fault: WordsFault) -> End {
+    match fault {
+        WordsFault::Usage => End::Usage,
+        WordsFault::Setting(name) => End::Setting { name },
+        WordsFault::NoMemory => End::NoMemory,
+    }
+}
+
+/// Does what the words after the program's name ask for: a command, a file and options, which `docs/FORMATS.md` has. A
+/// program runs over the memory hierarchy, and its output, its end and what is taken of the input are those of the same
+/// instructions over flat memory, where the shelf, the input and the output tell their bytes. The end is written to the
+/// note, and with it what was counted.
 pub fn hiersim<R: Threads + Sync, S: Shelf, I: Source, O: Sink, N: Sink>(
-    _rt: &R,
+    rt: &R,
     alloc: Global,
     words: &[String],
     shelf: &mut S,
@@ -105,17 +86,17 @@ pub fn hiersim<R: Threads + Sync, S: Shelf, I: Source, O: Sink, N: Sink>(
     out: &mut O,
     note: &mut N,
 ) -> Status
-    ensures finishes { Finishes words.now (record {
-      files = S.files shelf.old;
-      faults_before = S.faults shelf.old;
-      faults_now = S.faults shelf.new;
-      streams = (streams (stream (I.left input.old) (I.left input.new) (I.faults input.old) (I.faults input.new)) (stream (O.written out.old) (O.written out.new) (O.faults out.old) (O.faults out.new)));
-    }) (stream (N.written note.old) (N.written note.new) (N.faults note.old) (N.faults note.new)) result.end }
+    ensures finishes { Finishes words.now
+        (outside (shelf_use (S.files shelf.old) (S.faults shelf.old) (S.faults shelf.new)) (streams (stream (I.left input.old) (I.left input.new) (I.faults input.old) (I.faults input.new)) (stream (O.written out.old) (O.written out.new) (O.faults out.old) (O.faults out.new))))
+        (stream (N.written note.old) (N.written note.new) (N.faults note.old) (N.faults note.new)) result.end }
     ensures code { result.code ≡ code_of result.end }
 {
-    let outcome = run_words(alloc, words, shelf, input, out);
-    match write_end(&outcome.end, outcome.retired, note) {
-        Ok(()) => Status::of(outcome.end),
-        Err(_) => Status::of(End::NoteFault),
-    }
+    let notice = match read_words(alloc, words) {
+        Ok(request) => match obey(rt, alloc, &request, shelf, input, out) {
+            Ok(notice) => notice,
+            Err(end) => Notice::Ended(end),
+        },
+        Err(fault) => Notice::Ended(end_of_words(fault)),
+    };
+    Status::of(write_notice(alloc, notice, note))
 }

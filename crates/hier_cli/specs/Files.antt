@@ -1,0 +1,59 @@
+-- What stands outside of the program, and the file that its words name.
+use Rattle.std.specs.Prelude.{◌≡◌, ◌⊎◌, ℕ, ◌<◌, ◌≤◌, List, length, Option, Some, None, MatchOption, IfSome}
+use Rattle.hier_types.specs.Causes.{Rose}
+use Rattle.hier_types.specs.Outside.{file_of}
+use Rattle.sys_shim.specs.Streams.{AreUntouched, Streams}
+use Rattle.run_report.specs.declared.end.End.{End}
+use Rattle.run_report.specs.declared.end.End.TheVariants.{FileFault, TooLong, NoMemory}
+use Rattle.hier_cli.specs.declared.notice.Notice.{Notice}
+use Rattle.hier_cli.specs.declared.notice.Notice.TheVariants.{Ended}
+
+-- the most bytes that a file may have
+abbrev pub file_limit : ℕ
+file_limit = 67108864
+
+-- the shelf's files, where it tells them, and its count of faults before and now
+pub record ShelfUse : Type 0 where
+  pub files : Option (List (List ℕ × List ℕ))
+  pub faults_before : ℕ
+  pub faults_now : ℕ
+
+abbrev pub shelf_use : Option (List (List ℕ × List ℕ)) → ℕ → ℕ → ShelfUse
+shelf_use files before now = record { files = files; faults_before = before; faults_now = now }
+
+-- the shelf, and the input and the output
+pub record Outside : Type 0 where
+  pub shelf : ShelfUse
+  pub streams : Streams
+
+abbrev pub outside : ShelfUse → Streams → Outside
+outside shelf streams = record { shelf = shelf; streams = streams }
+
+-- these are the bytes of the named file, where the shelf tells them
+abbrev pub IsFile : Option (List (List ℕ × List ℕ)) → List ℕ → List ℕ → Type 0
+IsFile files name bytes = IfSome files (λ all. file_of all name ≡ Some bytes)
+
+-- the shelf gave these bytes for the name, and there are not too many
+abbrev pub IsLoaded : ShelfUse → List ℕ → List ℕ → Type 0
+IsLoaded shelf name file = IsFile shelf.files name file × (length file ≤ file_limit)
+
+-- the shelf failed in this call, or tells its files and lacks the named one
+abbrev pub FailsToLoad : ShelfUse → List ℕ → Type 0
+FailsToLoad shelf name = MatchOption shelf.files (Rose shelf.faults_before shelf.faults_now) (λ files. MatchOption (file_of files name) (Unit {0}) (λ _. Rose shelf.faults_before shelf.faults_now))
+
+-- the named file, where the shelf tells it, has more bytes than the limit
+abbrev pub IsTooLong : ShelfUse → List ℕ → Type 0
+IsTooLong shelf name = IfSome shelf.files (λ files. (bytes : List ℕ) × (file_of files name ≡ Some bytes) × (file_limit < length bytes))
+
+-- why no file was loaded
+abbrev pub IsLoadEnd : ShelfUse → List ℕ → End → Type 0
+IsLoadEnd shelf name FileFault = FailsToLoad shelf name
+IsLoadEnd shelf name TooLong = IsTooLong shelf name
+IsLoadEnd shelf name NoMemory = Unit {0}
+IsLoadEnd shelf name end = ⊥
+
+-- no file was loaded, or the work on the named one ends so
+abbrev pub OnFile : Outside → List ℕ → (List ℕ → Notice → Type 0) → Notice → Type 0
+OnFile out name Ends notice =
+    ((end : End) × (notice ≡ Ended end) × IsLoadEnd out.shelf name end × AreUntouched out.streams)
+    ⊎ ((file : List ℕ) × IsLoaded out.shelf name file × Ends file notice)

@@ -1,0 +1,76 @@
+-- What the note tells, and how it is written.
+use Rattle.std.specs.Prelude.{◌≡◌, ◌≢◌, ◌⊎◌, ℕ, ◌%◌, ◌^◌, List, Bool, true, Some, None, if◌then◌else◌}
+use Rattle.std.specs.Io.KnownBytes.{Appends}
+use Rattle.sys_shim.specs.Streams.{FailsToTake, Stream}
+use Rattle.run_report.specs.declared.end.End.{End}
+use Rattle.run_report.specs.declared.end.End.TheVariants.{Done, Exit, Usage, Setting, FileFault, TooLong, BadImage, BadTrace, Trap, Budget, Space, NoRoom, InFault, OutFault, NoteFault, NoMemory, NotBuilt}
+use Rattle.run_report.specs.declared.report.Report.{Report}
+use Rattle.run_report.specs.Json.{json_text}
+use Rattle.run_report.specs.ReportLines.{CanBeTold, report_text}
+use Rattle.run_report.specs.Texts.{note_text}
+use Rattle.hier_cli.specs.declared.notice.Notice.{Notice}
+use Rattle.hier_cli.specs.declared.notice.Notice.TheVariants.{Ended, Retired, Reported}
+
+-- the end that a notice tells of
+abbrev pub end_of : Notice → End
+end_of (Ended end) = end
+end_of (Retired end retired) = end
+end_of (Reported report geometry json) = report.end
+
+-- a notice can be told: its end is none of the note itself, and a report's totals go together
+abbrev pub IsTellable : Notice → Type 0
+IsTellable (Ended end) = end ≢ NoteFault
+IsTellable (Retired end retired) = end ≢ NoteFault
+IsTellable (Reported report geometry json) = CanBeTold report
+
+-- its text
+abbrev pub text_of : Notice → List ℕ
+text_of (Ended end) = note_text end None
+text_of (Retired end retired) = note_text end (Some retired)
+text_of (Reported report geometry json) = if json then json_text geometry report else report_text geometry report
+
+-- the notice is a report in JSON, which takes memory
+abbrev pub IsInJson : Notice → Type 0
+IsInJson (Ended end) = ⊥
+IsInJson (Retired end retired) = ⊥
+IsInJson (Reported report geometry json) = json ≡ true
+
+-- a notice is told by this text, and the work has this end; where there was no memory for JSON, by that end alone
+abbrev pub Tells : Notice → List ℕ → End → Type 0
+Tells notice text end = ((text ≡ text_of notice) × (end ≡ end_of notice)) ⊎ (IsInJson notice × (text ≡ note_text NoMemory None) × (end ≡ NoMemory))
+
+-- the text stands on the note, or a front of it where the note failed, which takes the end's place
+abbrev pub IsNoted : List ℕ → End → Stream → End → Type 0
+IsNoted text own note NoteFault = FailsToTake note text
+IsNoted text own note end = (end ≡ own) × Appends note.before note.after text
+
+-- The note tells of a notice, and the work ends so.
+pub record NotesNotice (notice : Notice) (note : Stream) (end : End) : Type 0 where
+  pub text : List ℕ
+  pub own : End
+  pub tells : Tells notice text own
+  pub noted : IsNoted text own note end
+
+-- the exit code of each end
+abbrev pub code_of : End → ℕ
+code_of Done = 0
+code_of (Exit status) = status % 2 ^ 8
+code_of Usage = 200
+code_of (Setting name) = 201
+code_of FileFault = 202
+code_of TooLong = 203
+code_of (BadImage fault) = 204
+code_of (BadTrace fault) = 205
+code_of (Trap cause pc value) = 206
+code_of Budget = 207
+code_of (Space at order free) = 208
+code_of (NoRoom at order) = 209
+code_of InFault = 210
+code_of OutFault = 211
+code_of NoteFault = 212
+code_of NoMemory = 213
+code_of (NotBuilt part) = 214
+
+-- A text is written to a stream at the end of the work, whose end is this where nothing fails.
+abbrev pub IsPrinted : List ℕ → Stream → End → End → Type 0
+IsPrinted text out own end = ((end ≡ own) × Appends out.before out.after text) ⊎ ((end ≡ OutFault) × FailsToTake out text)

@@ -1,0 +1,78 @@
+// The memory that a run left, printed page by page.
+ghost use Rattle.std.specs.Prelude.{◌≡◌, ◌+◌, ◌*◌, ◌<◌, ◌≤◌, OnErr, OnOk};
+ghost use Rattle.std.specs.Io.KnownBytes.{Appends};
+ghost use Rattle.hier_types.specs.Causes.{HasCause};
+ghost use Rattle.hier_types.specs.Outside.{AppendsFront};
+ghost use Rattle.hier_types.specs.Settings.{AreWithinRules};
+ghost use Rattle.sys_shim.specs.Streams.{stream, streams};
+ghost use Rattle.hier_cli.specs.Images.{EndsImage, image_text, text_of_page};
+ghost use Rattle.hier_cli.specs.Notices.{IsTellable};
+
+use crate::notice::Notice;
+use crate::runs::{end_of_machine, opened};
+use hier_machine::Machine;
+use hier_types::{Failed, Geometry, NullSink, PAGE_BYTES, PageNo, Settings, Sink, Source};
+use run_report::End;
+use std::alloc::Global;
+
+/// Runs the program in a file with its output dropped, and prints the pages that are not zero then, in rising order.
+pub(crate) fn run_for_image<I: Source, O: Sink>(
+    alloc: Global,
+    file: Vec<u8>,
+    settings: &Settings,
+    input: &mut I,
+    out: &mut O,
+) -> Notice
+    requires { AreWithinRules settings.now }
+    ensures ends { EndsImage settings.now (streams (stream (I.left input.old) (I.left input.new) (I.faults input.old) (I.faults input.new)) (stream (O.written out.old) (O.written out.new) (O.faults out.old) (O.faults out.new))) file.items result }
+    ensures tellable { IsTellable result }
+{
+    let mut machine = match opened(alloc, file, settings) {
+        Ok(machine) => machine,
+        Err(end) => return Notice::Ended(end),
+    };
+    let end = machine.run(input, &mut NullSink);
+    let own = end_of_machine(&machine, end);
+    let retired = machine.retired();
+    match print_pages(&machine, settings.geometry, out) {
+        Ok(()) => Notice::Retired { end: own, retired },
+        Err(Failed) => Notice::Retired {
+            end: End::OutFault,
+            retired,
+        },
+    }
+}
+
+/// Prints each page that is not zero behind its address.
+fn print_pages<O: Sink>(machine: &Machine, geometry: Geometry, out: &mut O) -> Result<(), Failed>
+    requires { machine.now.memory.span ≡ geometry }
+    ensures ok { OnOk result (Appends (O.written out.old) (O.written out.new) (image_text geometry machine.now.guest.hart.bytes)) }
+    ensures err { OnErr result (AppendsFront (O.written out.old) (O.written out.new) (image_text geometry machine.now.guest.hart.bytes)) }
+    ensures cause { HasCause (O.faults out.old) (O.faults out.new) result }
+{
+    let mut bytes = [0; 4096];
+    for number in 0..geometry.pages {
+        machine.view_page(PageNo(number), &mut bytes);
+        if let Err(failed) = print_page(&bytes, geometry, number, out) {
+            return Err(failed);
+        }
+    }
+    Ok(())
+}
+
+/// Prints a page, unless it is zero: its address in one call, and its bytes in another.
+fn print_page<O: Sink>(bytes: &[u8; 4096], geometry: Geometry, number: u32, out: &mut O) -> Result<(), Failed>
+    requires { number < geometry.pages }
+    ensures ok { OnOk result (Appends (O.written out.old) (O.written out.new) (text_of_page geometry number bytes.now)) }
+    ensures err { OnErr result (AppendsFront (O.written out.old) (O.written out.new) (text_of_page geometry number bytes.now)) }
+    ensures cause { HasCause (O.faults out.old) (O.faults out.new) result }
+{
+    if *bytes == [0; 4096] {
+        return Ok(());
+    }
+    let at = geometry.first() + number * PAGE_BYTES;
+    if let Err(failed) = out.write(&at.to_le_bytes()) {
+        return Err(failed);
+    }
+    out.write(bytes)
+}
