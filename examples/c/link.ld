@@ -1,10 +1,9 @@
-/* Code at 00010000, the simulator's first address by default; data on a page of its own behind it. */
+/* Code and constants at 00010000, the simulator's first address by default; data on a page of its own behind them. */
 ENTRY(_start)
 SECTIONS
 {
     . = 0x10000;
-    .text : { *(.text .text.*) }
-    .rodata : { *(.rodata .rodata.* .srodata .srodata.*) }
+    .text : { *(.text .text.*) *(.rodata .rodata.* .srodata .srodata.*) }
     . = ALIGN(0x1000);
     .data : { __global_pointer$ = . + 0x800; *(.data .data.* .sdata .sdata.*) }
     __bss_start = .;
