@@ -1,0 +1,96 @@
+// Programs that run, over the memory hierarchy and over flat memory.
+use super::*;
+
+/// Reads at most 64 bytes, writes them, and exits with their number.
+const COPY_A_LINE: [u32; 10] = [
+    0x0002_05b7, // lui x11, 0x20
+    0x0400_0613, // addi x12, x0, 64
+    0x03f0_0893, // addi x17, x0, 63
+    ECALL,
+    0x0005_0613, // addi x12, x10, 0
+    0x0010_0513, // addi x10, x0, 1
+    0x0400_0893, // addi x17, x0, 64
+    ECALL,
+    0x05d0_0893, // addi x17, x0, 93
+    ECALL,
+];
+
+#[test]
+fn input_reaches_the_output(rt: HostRuntime) -> Result<(), Fail> {
+    let alloc = rt.alloc();
+    let left = run_program(&rt, alloc, &COPY_A_LINE, Failing::nowhere(alloc))?;
+    assert_eq!(rt; left.status.end, End::Exit { status: 2 });
+    assert_eq!(rt; left.input.as_slice(), [].as_slice());
+    assert_eq!(rt; left.output.as_slice(), [1, 2].as_slice());
+    Ok(())
+}
+
+#[test]
+fn streams_that_fail(rt: HostRuntime) -> Result<(), Fail> {
+    let alloc = rt.alloc();
+    let mut failing = Failing::nowhere(alloc);
+    failing.input.push(0)?;
+    let left = run_program(&rt, alloc, &COPY_A_LINE, failing)?;
+    assert_eq!(rt; (left.status.end, left.status.code), (End::InFault, 210));
+    assert_eq!(rt; left.input.as_slice(), [1, 2].as_slice());
+    assert!(rt; left.note.starts_with(b"end input failed\nretired 3\n"));
+    let mut failing = Failing::nowhere(alloc);
+    failing.output.push((1, 2))?;
+    let left = run_program(&rt, alloc, &WRITE_ABC_TWICE, failing)?;
+    assert_eq!(rt; (left.status.end, left.status.code), (End::OutFault, 211));
+    assert_eq!(rt; left.output.as_slice(), b"abcab".as_slice());
+    assert!(rt; left.note.starts_with(b"end output failed\nretired 13\n"));
+    Ok(())
+}
+
+#[test]
+fn ends_by_the_program(rt: HostRuntime) -> Result<(), Fail> {
+    let alloc = rt.alloc();
+    let (cause, pc, value) = (0, 0x1_0000, 0x1_0006);
+    let cases: [(&[u32], End); 2] = [
+        (&[0x0060_006f], End::Trap { cause, pc, value }),
+        (&[0x05e0_0893, ECALL], End::Exit { status: 0 }),
+    ];
+    for (program, end) in cases {
+        assert_eq!(rt; end_of(&rt, alloc, program)?, end);
+    }
+    Ok(())
+}
+
+/// Flat memory gives the same output, end and number of instructions.
+#[test]
+fn flat_memory_gives_the_same(rt: HostRuntime) -> Result<(), Fail> {
+    let alloc = rt.alloc();
+    let programs: [(&[u32], u32, &[u8]); 3] = [
+        (&EXIT_THREE, 3, b"end exit 3\nretired 3\n"),
+        (&COPY_A_LINE, 2, b"end exit 2\nretired 10\n"),
+        (&WRITE_ABC_TWICE, 0, b"end exit 0\nretired 17\n"),
+    ];
+    for (program, status, note) in programs {
+        let flat = run_words(&rt, alloc, &["flat", "a"], program, Failing::nowhere(alloc))?;
+        assert_eq!(rt; flat.status.end, End::Exit { status });
+        assert_eq!(rt; flat.note.as_slice(), note);
+        let left = run_program(&rt, alloc, program, Failing::nowhere(alloc))?;
+        assert_eq!(rt; left.status.end, flat.status.end);
+        assert_eq!(rt; left.output.as_slice(), flat.output.as_slice());
+        assert!(rt; left.note.starts_with(note));
+    }
+    Ok(())
+}
+
+/// The budget is tested before each instruction.
+#[test]
+fn budgets_end_runs(rt: HostRuntime) -> Result<(), Fail> {
+    let alloc = rt.alloc();
+    for (budget, end, note) in [
+        ("0", End::Budget, b"end budget\nretired 0\n"),
+        ("2", End::Budget, b"end budget\nretired 2\n"),
+        ("3", End::Exit { status: 3 }, b"end exit 3\nretired 3\n"),
+    ] {
+        let words = ["run", "a", "--budget", budget];
+        let left = run_words(&rt, alloc, &words, &EXIT_THREE, Failing::nowhere(alloc))?;
+        assert_eq!(rt; left.status.end, end);
+        assert!(rt; left.note.starts_with(note));
+    }
+    Ok(())
+}
