@@ -78,7 +78,7 @@ report_text span report = flatten (report_lines span report)
 
 -- a survey has all pages, those of zeros, and what the others take
 abbrev pub survey_lines : Totals → List (List ℕ)
-survey_lines totals = numbers_line (codes "pages") (totals.zero + pages_of totals ∷ [])
+survey_lines totals = numbers_line (codes "pages") ((totals.zero + pages_of totals) ∷ [])
     ∷ numbers_line (codes "zero") (totals.zero ∷ [])
     ∷ totals_lines totals
 

@@ -42,9 +42,7 @@ fn report_value(alloc: Global, report: &Report, geometry: &Geometry) -> Result<V
     let mut end = TextLine::new();
     put_end(&mut end, &report.end);
     members.text("end", &end)?;
-    if let Settled::Done(totals) = &report.settled {
-        members.totals(totals)?;
-    }
+    members.settled(&report.settled)?;
     Ok(Value::Object(members.map))
 }
 
@@ -69,6 +67,17 @@ impl Members {
         self.numbers("pages", &[pages.reads, pages.writes])?;
         self.numbers("l2", &[l2.reads, l2.read_hits, l2.writes, l2.write_hits])?;
         self.numbers("l1", &[l1.hits, l1.misses, l1.write_backs])
+    }
+
+    fn settled(&mut self, settled: &Settled) -> Result<(), NoMemory>
+        requires { lines.HasBlocksIfDone settled.now }
+        ensures { OnOk result (members_view self.new.map.entries
+            ≡ json.settled_members settled.now (members_view self.old.map.entries)) }
+    {
+        match settled {
+            Settled::Done(totals) => self.totals(totals),
+            Settled::Space(_) => Ok(()),
+        }
     }
 
     fn totals(&mut self, totals: &Totals) -> Result<(), NoMemory>

@@ -8,7 +8,7 @@ ghost use Rattle.run_report.specs.declared.end.End.TheVariants.{NoteFault};
 ghost use Rattle.run_report.specs.ReportLines as lines;
 
 use crate::end::page_address;
-use crate::lines::write_lines;
+use crate::lines::{write_both, write_lines};
 use crate::note::{end_line, put_refusal, retired_line};
 use crate::report::{Report, Settled};
 use crate::text_line::TextLine;
@@ -24,12 +24,10 @@ pub fn write_text<N: Sink>(report: &Report, geometry: &Geometry, note: &mut N) -
     ensures err { OnErr result (AppendsFront (N.written note.old) (N.written note.new) (lines.report_text geometry.now report.now)) }
     ensures cause { HasCause (N.faults note.old) (N.faults note.new) result }
 {
-    if let Err(failed) = write_lines(&run_lines(report, geometry), note) {
-        return Err(failed);
-    }
+    let lines = run_lines(report, geometry);
     match &report.settled {
-        Settled::Done(totals) => write_lines(&totals_lines(totals), note),
-        Settled::Space(_) => Ok(()),
+        Settled::Done(totals) => write_both(&lines, &totals_lines(totals), note),
+        Settled::Space(_) => write_lines(&lines, note),
     }
 }
 

@@ -5,7 +5,7 @@ ghost use Rattle.hier_types.specs.Causes.{HasCause};
 ghost use Rattle.hier_types.specs.Outside.{AppendsFront};
 ghost use Rattle.run_report.specs.ReportLines as lines;
 
-use crate::lines::write_lines;
+use crate::lines::write_both;
 use crate::text_line::TextLine;
 use crate::totals::{pages_with_block, totals_lines};
 use hier_types::{Failed, Sink, Totals};
@@ -19,18 +19,10 @@ pub fn write_survey<O: Sink>(totals: &Totals, out: &mut O) -> Result<(), Failed>
     ensures err { OnErr result (AppendsFront (O.written out.old) (O.written out.new) (lines.survey_text totals.now)) }
     ensures cause { HasCause (O.faults out.old) (O.faults out.new) result }
 {
-    let [classes, exceptions, encoded, blocks, ratio] = totals_lines(totals);
     let zero = u64::from(totals.zero);
-    write_lines(
-        &[
-            TextLine::of_numbers("pages", &[zero + pages_with_block(totals)]),
-            TextLine::of_numbers("zero", &[zero]),
-            classes,
-            exceptions,
-            encoded,
-            blocks,
-            ratio,
-        ],
-        out,
-    )
+    let pages = [
+        TextLine::of_numbers("pages", &[zero + pages_with_block(totals)]),
+        TextLine::of_numbers("zero", &[zero]),
+    ];
+    write_both(&pages, &totals_lines(totals), out)
 }

@@ -1,5 +1,5 @@
 // The lines of what the pages of a memory take.
-ghost use Rattle.std.specs.Prelude.{◌≡◌, map};
+ghost use Rattle.std.specs.Prelude.{◌≡◌, ◌^◌, ◌<◌, map};
 ghost use Rattle.run_report.specs.ReportLines as lines;
 
 use crate::text_line::TextLine;
@@ -33,7 +33,8 @@ pub(crate) fn classes(totals: &Totals) -> [u64; 4]
 
 /// The number of pages that have a block.
 pub(crate) fn pages_with_block(totals: &Totals) -> u64
-    ensures { result ≡ lines.pages_of totals.now }
+    ensures pages { result ≡ lines.pages_of totals.now }
+    ensures fits { result < 2 ^ 34 }
 {
     u64::from(totals.c512) + u64::from(totals.c1024) + u64::from(totals.c2048) + u64::from(totals.c4096)
 }
