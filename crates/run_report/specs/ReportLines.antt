@@ -61,20 +61,24 @@ settled_text span (Space refusal) = refusal_text span refusal
 abbrev pub settle_line : Span → Settled → List ℕ
 settle_line span settled = codes "settle " ++ settled_text span settled ++ line_feed
 
--- where it was refused no totals follow
-abbrev pub settled_lines : Span → Settled → List (List ℕ)
-settled_lines span (Done totals) = settle_line span (Done totals) ∷ totals_lines totals
-settled_lines span (Space refusal) = settle_line span (Space refusal) ∷ []
+-- the lines of every report
+abbrev pub run_lines : Span → Report → List (List ℕ)
+run_lines span report = end_line report.end ∷ retired_line report.retired ∷ counts_lines report.counts ++ settle_line span report.settled ∷ []
+
+-- where the settling was refused no totals follow
+abbrev pub settled_lines : Settled → List (List ℕ)
+settled_lines (Done totals) = totals_lines totals
+settled_lines (Space refusal) = []
 
 abbrev pub report_lines : Span → Report → List (List ℕ)
-report_lines span report = end_line report.end ∷ retired_line report.retired ∷ counts_lines report.counts ++ settled_lines span report.settled
+report_lines span report = run_lines span report ++ settled_lines report.settled
 
 abbrev pub report_text : Span → Report → List ℕ
 report_text span report = flatten (report_lines span report)
 
 -- a survey has all pages, those of zeros, and what the others take
 abbrev pub survey_lines : Totals → List (List ℕ)
-survey_lines totals = numbers_line (codes "pages") (totals.zero + pages_of totals ∷ [])
+survey_lines totals = numbers_line (codes "pages") ((totals.zero + pages_of totals) ∷ [])
     ∷ numbers_line (codes "zero") (totals.zero ∷ [])
     ∷ totals_lines totals
 

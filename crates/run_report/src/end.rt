@@ -103,7 +103,7 @@ impl End {
 }
 
 /// The address of a page of the guest's span.
-fn page_address(geometry: Geometry, page: PageNo) -> u32
+pub(crate) fn page_address(geometry: Geometry, page: PageNo) -> u32
     ensures { result ≡ page_address geometry page.0 }
 {
     let at = u64::from(PAGE_BYTES) * (u64::from(geometry.base) + u64::from(page.0));

@@ -5,6 +5,7 @@
 
 mod end;
 mod json;
+mod lines;
 mod names;
 mod note;
 mod report;
@@ -13,6 +14,7 @@ mod survey_lines;
 #[cfg(test)]
 mod tests;
 mod text_line;
+mod totals;
 
 pub use end::{End, Part};
 pub use json::to_json;

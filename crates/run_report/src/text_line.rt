@@ -1,76 +1,117 @@
 // One line of text, which takes no memory.
-ghost use Rattle.std.specs.Prelude.{◌≡◌, ◌+◌, ◌/◌, ◌%◌, ◌^◌, ◌<◌, ◌≤◌, [], ◌++◌, length, decimal};
-ghost use Rattle.arrayvec.specs.ArrayVec.{array_vec_len};
+ghost use Rattle.std.specs.Prelude.{◌≡◌, ◌+◌, ◌*◌, ◌/◌, ◌%◌, ◌^◌, ◌<◌, ◌≤◌, [], ◌∷◌, ◌++◌, length, decimal};
+ghost use Rattle.arrayvec.specs.ArrayString.{array_string_len};
 ghost use Rattle.run_report.specs.Texts as texts;
+ghost use Rattle.run_report.specs.ReportLines as lines;
 
-use arrayvec::ArrayVec;
+use arrayvec::ArrayString;
 use itoa::Buffer;
 
 /// A line of text of at most 192 bytes.
-#[derive(Drop)]
+#[derive(Clone, Copy)]
 pub(crate) struct TextLine {
-    bytes: ArrayVec<u8, 192>,
+    text: ArrayString<192>,
 }
 
 impl TextLine {
     pub(crate) fn new() -> Self
-        ensures { result.bytes.items ≡ [] }
+        ensures { result.text.bytes ≡ [] }
     {
         TextLine {
-            bytes: ArrayVec::new(),
+            text: ArrayString::new(),
         }
     }
 
-    pub(crate) fn bytes(&self) -> &[u8]
-        ensures { result.now ≡ self.now.bytes.items }
+    /// The line of a word and some numbers, each behind a space.
+    pub(crate) fn of_numbers(word: &str, numbers: &[u64]) -> Self
+        requires { length word.now + 21 * length numbers.now < 192 }
+        ensures { result.text.bytes ≡ lines.numbers_line word.now numbers.now }
     {
-        self.bytes.as_slice()
+        let mut line = TextLine::new();
+        line.word(word);
+        line.numbers(numbers);
+        line.word("\n");
+        line
+    }
+
+    pub(crate) fn as_str(&self) -> &str
+        ensures { result.now ≡ self.now.text.bytes }
+    {
+        self.text.as_str()
     }
 
     /// Appends a text as it is.
-    pub(crate) fn word(&mut self, text: &[u8])
-        requires room { array_vec_len self.old.bytes + length text.now ≤ 192 }
-        ensures items { self.new.bytes.items ≡ self.old.bytes.items ++ text.now }
-        ensures len { array_vec_len self.new.bytes ≡ array_vec_len self.old.bytes + length text.now }
+    pub(crate) fn word(&mut self, text: &str)
+        requires room { array_string_len self.old.text + length text.now ≤ 192 }
+        ensures text { self.new.text.bytes ≡ self.old.text.bytes ++ text.now }
+        ensures len { array_string_len self.new.text ≡ array_string_len self.old.text + length text.now }
     {
-        if self.bytes.try_extend_from_slice(text).is_err() {
-            unreachable!();
-        }
+        self.text.push_str(text);
     }
 
     /// Appends a number in decimal digits.
     pub(crate) fn number(&mut self, n: u64)
-        requires room { array_vec_len self.old.bytes + 20 ≤ 192 }
-        ensures items { self.new.bytes.items ≡ self.old.bytes.items ++ decimal n }
-        ensures len { array_vec_len self.new.bytes ≤ array_vec_len self.old.bytes + 20 }
+        requires room { array_string_len self.old.text + 20 ≤ 192 }
+        ensures text { self.new.text.bytes ≡ self.old.text.bytes ++ decimal n }
+        ensures len { array_string_len self.new.text ≤ array_string_len self.old.text + 20 }
     {
         let mut buffer = Buffer::new();
-        self.word(buffer.format(n).as_bytes());
+        self.word(buffer.format(n));
+    }
+
+    /// Appends some numbers, each behind a space.
+    pub(crate) fn numbers(&mut self, numbers: &[u64])
+        requires room { array_string_len self.old.text + 21 * length numbers.now ≤ 192 }
+        ensures text { self.new.text.bytes ≡ self.old.text.bytes ++ texts.counts_text numbers.now }
+        ensures len { array_string_len self.new.text ≤ array_string_len self.old.text + 21 * length numbers.now }
+    {
+        for number in numbers {
+            self.next_number(*number);
+        }
+    }
+
+    /// Appends a number behind a space.
+    fn next_number(&mut self, n: u64)
+        requires room { array_string_len self.old.text + 21 ≤ 192 }
+        ensures text { self.new.text.bytes ≡ self.old.text.bytes ++ texts.count_text n }
+        ensures len { array_string_len self.new.text ≤ array_string_len self.old.text + 21 }
+    {
+        self.word(" ");
+        self.number(n);
     }
 
     /// Appends a number in eight hexadecimal digits.
     pub(crate) fn address(&mut self, n: u32)
-        requires room { array_vec_len self.old.bytes + 8 ≤ 192 }
-        ensures items { self.new.bytes.items ≡ self.old.bytes.items ++ texts.address n }
-        ensures len { array_vec_len self.new.bytes ≡ array_vec_len self.old.bytes + 8 }
+        requires room { array_string_len self.old.text + 8 ≤ 192 }
+        ensures text { self.new.text.bytes ≡ self.old.text.bytes ++ texts.address n }
+        ensures len { array_string_len self.new.text ≡ array_string_len self.old.text + 8 }
     {
-        self.word(&[
-            hex_digit(n, 28),
-            hex_digit(n, 24),
-            hex_digit(n, 20),
-            hex_digit(n, 16),
-            hex_digit(n, 12),
-            hex_digit(n, 8),
-            hex_digit(n, 4),
-            hex_digit(n, 0),
-        ]);
+        self.digit(n, 28);
+        self.digit(n, 24);
+        self.digit(n, 20);
+        self.digit(n, 16);
+        self.digit(n, 12);
+        self.digit(n, 8);
+        self.digit(n, 4);
+        self.digit(n, 0);
+    }
+
+    /// Appends the hexadecimal digit of the four bits from `low` on.
+    fn digit(&mut self, n: u32, low: u32)
+        requires bits { low < 32 }
+        requires room { array_string_len self.old.text < 192 }
+        ensures text { self.new.text.bytes ≡ self.old.text.bytes ++ texts.hex_digit (n / 2 ^ low % 16) ∷ [] }
+        ensures len { array_string_len self.new.text ≡ array_string_len self.old.text + 1 }
+    {
+        self.text.push(hex_digit(n, low) as char);
     }
 }
 
 /// The hexadecimal digit of the four bits from `low` on.
 fn hex_digit(n: u32, low: u32) -> u8
     requires { low < 32 }
-    ensures { result ≡ texts.hex_digit (n / 2 ^ low % 16) }
+    ensures digit { result ≡ texts.hex_digit (n / 2 ^ low % 16) }
+    ensures ascii { result < 128 }
 {
     let digit = ((n >> low) % 16) as u8;
     if digit < 10 {
