@@ -41,4 +41,4 @@ pub record RanFlat (settings : Settings) (file : List ℕ) (streams : Streams) (
 abbrev pub EndsFlat : Settings → Streams → List ℕ → Notice → Type 0
 EndsFlat settings streams file (Ended end) = IsImageEnd settings.geometry file end × AreUntouched streams
 EndsFlat settings streams file (Retired end retired) = RanFlat settings file streams end retired
-EndsFlat settings streams file (Reported report geometry json) = ⊥
+EndsFlat settings streams file (Reported report) = ⊥

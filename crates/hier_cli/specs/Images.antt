@@ -43,4 +43,4 @@ pub record RanAndPrinted (settings : Settings) (file : List ℕ) (both : Streams
 abbrev pub EndsImage : Settings → Streams → List ℕ → Notice → Type 0
 EndsImage settings both file (Ended end) = FailsToStart settings file end × AreUntouched both
 EndsImage settings both file (Retired end retired) = RanAndPrinted settings file both end retired
-EndsImage settings both file (Reported report geometry json) = ⊥
+EndsImage settings both file (Reported report) = ⊥

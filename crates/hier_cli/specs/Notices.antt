@@ -1,10 +1,11 @@
 -- What the note tells, and how it is written.
-use Rattle.std.specs.Prelude.{◌≡◌, ◌≢◌, ◌⊎◌, ℕ, ◌%◌, ◌^◌, List, Bool, true, Some, None, if◌then◌else◌}
+use Rattle.std.specs.Prelude.{◌≡◌, ◌≢◌, ◌⊎◌, ℕ, ◌%◌, ◌^◌, List, Bool, true, Some, None, Result, Ok, Err, if◌then◌else◌}
 use Rattle.std.specs.Io.KnownBytes.{Appends}
+use Rattle.hier_types.specs.declared.faults.Failed.{Failed}
+use Rattle.hier_types.specs.declared.settings.Settings.{Settings}
 use Rattle.sys_shim.specs.Streams.{FailsToTake, Stream}
 use Rattle.run_report.specs.declared.end.End.{End}
 use Rattle.run_report.specs.declared.end.End.TheVariants.{Done, Exit, Usage, Setting, FileFault, TooLong, BadImage, BadTrace, Trap, Budget, Space, NoRoom, InFault, OutFault, NoteFault, NoMemory, NotBuilt}
-use Rattle.run_report.specs.declared.report.Report.{Report}
 use Rattle.run_report.specs.Json.{json_text}
 use Rattle.run_report.specs.ReportLines.{CanBeTold, report_text}
 use Rattle.run_report.specs.Texts.{note_text}
@@ -15,29 +16,29 @@ use Rattle.hier_cli.specs.declared.notice.Notice.TheVariants.{Ended, Retired, Re
 abbrev pub end_of : Notice → End
 end_of (Ended end) = end
 end_of (Retired end retired) = end
-end_of (Reported report geometry json) = report.end
+end_of (Reported report) = report.end
 
 -- a notice can be told: its end is none of the note itself, and a report's totals go together
 abbrev pub IsTellable : Notice → Type 0
 IsTellable (Ended end) = end ≢ NoteFault
 IsTellable (Retired end retired) = end ≢ NoteFault
-IsTellable (Reported report geometry json) = CanBeTold report
+IsTellable (Reported report) = CanBeTold report
 
--- its text
-abbrev pub text_of : Notice → List ℕ
-text_of (Ended end) = note_text end None
-text_of (Retired end retired) = note_text end (Some retired)
-text_of (Reported report geometry json) = if json then json_text geometry report else report_text geometry report
+-- its text, in the span of the settings, and in the form that they ask for
+abbrev pub text_of : Settings → Notice → List ℕ
+text_of settings (Ended end) = note_text end None
+text_of settings (Retired end retired) = note_text end (Some retired)
+text_of settings (Reported report) = if settings.json then json_text settings.geometry report else report_text settings.geometry report
 
 -- the notice is a report in JSON, which takes memory
-abbrev pub IsInJson : Notice → Type 0
-IsInJson (Ended end) = ⊥
-IsInJson (Retired end retired) = ⊥
-IsInJson (Reported report geometry json) = json ≡ true
+abbrev pub TakesMemory : Settings → Notice → Type 0
+TakesMemory settings (Ended end) = ⊥
+TakesMemory settings (Retired end retired) = ⊥
+TakesMemory settings (Reported report) = settings.json ≡ true
 
 -- a notice is told by this text, and the work has this end; where there was no memory for JSON, by that end alone
-abbrev pub Tells : Notice → List ℕ → End → Type 0
-Tells notice text end = ((text ≡ text_of notice) × (end ≡ end_of notice)) ⊎ (IsInJson notice × (text ≡ note_text NoMemory None) × (end ≡ NoMemory))
+abbrev pub Tells : Settings → Notice → List ℕ → End → Type 0
+Tells settings notice text end = ((text ≡ text_of settings notice) × (end ≡ end_of notice)) ⊎ (TakesMemory settings notice × (text ≡ note_text NoMemory None) × (end ≡ NoMemory))
 
 -- the text stands on the note, or a front of it where the note failed, which takes the end's place
 abbrev pub IsNoted : List ℕ → End → Stream → End → Type 0
@@ -45,11 +46,16 @@ IsNoted text own note NoteFault = FailsToTake note text
 IsNoted text own note end = (end ≡ own) × Appends note.before note.after text
 
 -- The note tells of a notice, and the work ends so.
-pub record NotesNotice (notice : Notice) (note : Stream) (end : End) : Type 0 where
+pub record NotesNotice (settings : Settings) (notice : Notice) (note : Stream) (end : End) : Type 0 where
   pub text : List ℕ
   pub own : End
-  pub tells : Tells notice text own
+  pub tells : Tells settings notice text own
   pub noted : IsNoted text own note end
+
+-- the end of the work, by what the last call of the note answered
+abbrev pub noted_end : End → Result (Unit {0}) Failed → End
+noted_end end (Ok u) = end
+noted_end end (Err failed) = NoteFault
 
 -- the exit code of each end
 abbrev pub code_of : End → ℕ

@@ -77,4 +77,4 @@ pub record RanAndReported (settings : Settings) (file : List ℕ) (streams : Str
 abbrev pub EndsRun : Settings → Streams → List ℕ → Notice → Type 0
 EndsRun settings streams file (Ended end) = FailsToStart settings file end × AreUntouched streams
 EndsRun settings streams file (Retired end retired) = ⊥
-EndsRun settings streams file (Reported report geometry json) = RanAndReported settings file streams report × (geometry ≡ settings.geometry) × (json ≡ settings.json)
+EndsRun settings streams file (Reported report) = RanAndReported settings file streams report

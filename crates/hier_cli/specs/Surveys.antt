@@ -18,7 +18,7 @@ use Rattle.hier_cli.specs.Notices.{IsPrinted}
 abbrev pub PrintedOrNoMemory : List ℕ → Stream → Notice → Type 0
 PrintedOrNoMemory text out (Ended end) = ((end ≡ NoMemory) × IsUntouched out) ⊎ IsPrinted text out Done end
 PrintedOrNoMemory text out (Retired end retired) = ⊥
-PrintedOrNoMemory text out (Reported report geometry json) = ⊥
+PrintedOrNoMemory text out (Reported report) = ⊥
 
 -- and the input is not read
 abbrev pub PrintsAlone : List ℕ → Streams → Notice → Type 0

@@ -8,7 +8,7 @@ use Rattle.run_report.specs.declared.end.End.{End}
 use Rattle.hier_cli.specs.declared.notice.Notice.{Notice}
 use Rattle.hier_cli.specs.Files.{Outside}
 use Rattle.hier_cli.specs.Notices.{NotesNotice}
-use Rattle.hier_cli.specs.Requests.{Answered, AskFor}
+use Rattle.hier_cli.specs.Requests.{Answered, AskFor, settings_of}
 
 -- The words are read, what they ask for is done, and the note tells of it.
 pub record Finishes (words : List (String Global)) (out : Outside) (note : Stream) (end : End) : Type 0 where
@@ -16,4 +16,4 @@ pub record Finishes (words : List (String Global)) (out : Outside) (note : Strea
   pub asked : AskFor (map string_bytes words) request
   pub notice : Notice
   pub answered : Answered request out notice
-  pub noted : NotesNotice notice note end
+  pub noted : NotesNotice (settings_of request) notice note end

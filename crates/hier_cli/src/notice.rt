@@ -1,54 +1,60 @@
 // What the note tells of the work.
-ghost use Rattle.std.specs.Prelude.{◌≡◌};
+ghost use Rattle.std.specs.Prelude.{◌≡◌, true};
+ghost use Rattle.run_report.specs.ReportLines.{CanBeTold};
 ghost use Rattle.sys_shim.specs.Streams.{stream};
-ghost use Rattle.hier_cli.specs.Notices.{IsNoted, IsTellable, NotesNotice, Tells, end_of, text_of};
+ghost use Rattle.hier_cli.specs.Notices.{IsTellable, NotesNotice, noted_end};
+ghost use Rattle.hier_cli.specs.declared.notice.Notice.TheVariants.{Reported};
 
-use hier_types::{Failed, Geometry, Sink};
+use hier_types::{Failed, Settings, Sink};
 use run_report::{End, Report, to_json, write_end, write_text};
 use std::alloc::Global;
 
 /// What the note tells of the work that was done.
-#[derive(Clone, Copy, Debug, PartialEq, Eq)]
-pub(crate) enum Notice {
+#[derive(Clone, Copy, Debug)]
+pub enum Notice {
     /// How the work ended. No machine was opened, or none was needed.
     Ended(End),
     /// How a run ended, and how many instructions retired.
     Retired { end: End, retired: u64 },
-    /// A run or a trace with all that was counted, as text or as JSON.
-    Reported {
-        report: Report,
-        geometry: Geometry,
-        json: bool,
-    },
+    /// A run or a trace with all that was counted.
+    Reported(Report),
 }
 
-/// Writes the notice, and answers the end of the work: that of the notice, or of the note itself where it failed, or want
-/// of memory for JSON, which is then told alone.
-pub(crate) fn write_notice<N: Sink>(alloc: Global, notice: Notice, note: &mut N) -> End
+/// Writes the notice, and answers the end of the work: that of the notice, or of the note itself where it failed. Where
+/// there is no memory for JSON that end is told alone.
+pub(crate) fn write_notice<N: Sink>(
+    alloc: Global,
+    notice: Notice,
+    settings: &Settings,
+    note: &mut N,
+) -> End
     requires { IsTellable notice }
-    ensures { NotesNotice notice (stream (N.written note.old) (N.written note.new) (N.faults note.old) (N.faults note.new)) result }
+    ensures { NotesNotice settings.now notice (stream (N.written note.old) (N.written note.new) (N.faults note.old) (N.faults note.new)) result }
 {
     match notice {
         Notice::Ended(end) => noted(end, write_end(&end, None, note)),
         Notice::Retired { end, retired } => noted(end, write_end(&end, Some(retired), note)),
-        Notice::Reported {
-            report,
-            geometry,
-            json: false,
-        } => noted(report.end, write_text(&report, &geometry, note)),
-        Notice::Reported {
-            report,
-            geometry,
-            json: true,
-        } => match to_json(alloc, &report, &geometry) {
-            Ok(text) => noted(report.end, note.write(&text)),
-            Err(_) => noted(End::NoMemory, write_end(&End::NoMemory, None, note)),
-        },
+        Notice::Reported(report) if settings.json => write_json(alloc, &report, settings, note),
+        Notice::Reported(report) => noted(report.end, write_text(&report, &settings.geometry, note)),
+    }
+}
+
+/// Writes a report as JSON, in one call.
+fn write_json<N: Sink>(alloc: Global, report: &Report, settings: &Settings, note: &mut N) -> End
+    requires told { CanBeTold report.now }
+    requires json { settings.now.json ≡ true }
+    ensures { NotesNotice settings.now (Reported report.now) (stream (N.written note.old) (N.written note.new) (N.faults note.old) (N.faults note.new)) result }
+{
+    match to_json(alloc, report, &settings.geometry) {
+        Ok(text) => noted(report.end, note.write(&text)),
+        Err(_) => noted(End::NoMemory, write_end(&End::NoMemory, None, note)),
     }
 }
 
 /// The end, unless the note failed.
-fn noted(end: End, written: Result<(), Failed>) -> End {
+fn noted(end: End, written: Result<(), Failed>) -> End
+    ensures { result ≡ noted_end end written }
+{
     match written {
         Ok(()) => end,
         Err(Failed) => End::NoteFault,

@@ -77,11 +77,7 @@ pub(crate) fn run_file<I: Source, O: Sink>(
     };
     let end = machine.run(input, out);
     let end = end_of_machine(&machine, end);
-    Notice::Reported {
-        report: machine.report(end),
-        geometry: settings.geometry,
-        json: settings.json,
-    }
+    Notice::Reported(machine.report(end))
 }
 
 /// Runs the program that a number makes, and reports.

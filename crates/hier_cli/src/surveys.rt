@@ -16,8 +16,8 @@ use std::alloc::Global;
 use std::thread::Threads;
 
 /// The end of work whose result was printed.
-fn printed(result: Result<(), Failed>) -> Notice {
-    match result {
+fn printed(written: Result<(), Failed>) -> Notice {
+    match written {
         Ok(()) => Notice::Ended(End::Done),
         Err(Failed) => Notice::Ended(End::OutFault),
     }

@@ -4,7 +4,7 @@ ghost use Rattle.hier_types.specs.Settings.{AreWithinRules};
 ghost use Rattle.sys_shim.specs.Streams.{stream, streams};
 ghost use Rattle.hier_cli.specs.Files.{IsLoaded, IsLoadEnd, outside, shelf_use};
 ghost use Rattle.hier_cli.specs.Notices.{IsTellable, code_of};
-ghost use Rattle.hier_cli.specs.Requests.{Answered, Obeys, notice_of};
+ghost use Rattle.hier_cli.specs.Requests.{Obeys, end_of_words, notice_of};
 ghost use Rattle.hier_cli.specs.Top.{Finishes};
 
 use crate::flat_runs::run_flat;
@@ -13,7 +13,7 @@ use crate::notice::{Notice, write_notice};
 use crate::runs::{run_demo, run_file};
 use crate::status::Status;
 use crate::surveys::{survey_file, write_demo};
-use hier_types::{Shelf, ShelfFault, Sink, Source};
+use hier_types::{Settings, Shelf, ShelfFault, Sink, Source};
 use run_report::{End, Part};
 use sim_words::{Command, Request, WordsFault, read_words};
 use std::alloc::Global;
@@ -65,7 +65,9 @@ fn obey<R: Threads + Sync, S: Shelf, I: Source, O: Sink>(
 }
 
 /// The end of words that make no request.
-fn end_of_words(fault: WordsFault) -> End {
+fn end_of_words(fault: WordsFault) -> End
+    ensures { result ≡ end_of_words fault }
+{
     match fault {
         WordsFault::Usage => End::Usage,
         WordsFault::Setting(name) => End::Setting { name },
@@ -91,12 +93,16 @@ pub fn hiersim<R: Threads + Sync, S: Shelf, I: Source, O: Sink, N: Sink>(
         (stream (N.written note.old) (N.written note.new) (N.faults note.old) (N.faults note.new)) result.end }
     ensures code { result.code ≡ code_of result.end }
 {
-    let notice = match read_words(alloc, words) {
-        Ok(request) => match obey(rt, alloc, &request, shelf, input, out) {
-            Ok(notice) => notice,
-            Err(end) => Notice::Ended(end),
-        },
-        Err(fault) => Notice::Ended(end_of_words(fault)),
+    let request = match read_words(alloc, words) {
+        Ok(request) => request,
+        Err(fault) => {
+            let notice = Notice::Ended(end_of_words(fault));
+            return Status::of(write_notice(alloc, notice, &Settings::default(), note));
+        }
     };
-    Status::of(write_notice(alloc, notice, note))
+    let notice = match obey(rt, alloc, &request, shelf, input, out) {
+        Ok(notice) => notice,
+        Err(end) => Notice::Ended(end),
+    };
+    Status::of(write_notice(alloc, notice, &request.settings, note))
 }
