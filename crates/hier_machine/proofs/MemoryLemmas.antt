@@ -1,12 +1,16 @@
 -- The lines of a memory, page by page and through levels that keep no line.
-use Rattle.std.proofs.Common.{◌≡◌, ℕ, zero, suc, ◌+◌, ◌*◌, ◌%◌, List, [], ◌∷◌, ◌++◌, length, take, drop, replicate, Option, Some, None, slice_get, refl, sym, ◌∙◌, ap, arith}
+use Rattle.std.proofs.Common.{◌≡◌, ℕ, zero, suc, ◌+◌, ◌*◌, ◌%◌, List, [], ◌∷◌, ◌++◌, length, take, drop, replicate, Option, Some, None, slice_get, is_some, refl, sym, ◌∙◌, ap, arith}
 use Rattle.std.proofs.Math.Seq.{take-add}
-use Rattle.std.proofs.lemmas.List.{drop-drop}
-use Rattle.hier_types.specs.Lines.{AreLines, flatten}
+use Rattle.std.proofs.lemmas.List.{drop-drop, replicate-append-replicate}
+use Rattle.hier_types.specs.Lines.{AreLines, flatten, zero_line}
+use Rattle.hier_types.specs.declared.settings.Settings.{Settings}
 use Rattle.hier_types.proofs.LineLemmas.{line_of_flatten}
 use Rattle.recency.specs.declared.entry.Entry.{Entry}
 use Rattle.recency.specs.Kept.{Kept}
-use Rattle.recency.specs.Levels.{kept_of, overlay, overlay_from, set_at}
+use Rattle.recency.specs.Levels.{KeepsUnder, kept_of, overlay, overlay_from, set_at}
+use Rattle.page_store.specs.Store.{Store, fresh}
+use Rattle.hier_machine.specs.Memory.{bytes_of, lines_below, lines_of}
+use Rattle.hier_machine.specs.Start.{start_memory}
 
 -- one line more of a page
 pub next_line : (lines : List (List ℕ)) (page index : ℕ) (line : List ℕ) → AreLines lines → slice_get lines (64 * page + index) ≡ Some line
@@ -39,3 +43,28 @@ kept_none n ways line = rw (empty_at n ways (line % length (replicate n (empty_s
 -- over sets that keep no line the lines are those below
 pub overlay_none : (lines : List (List ℕ)) (n ways : ℕ) → overlay lines (replicate n (empty_set ways)) ≡ lines
 overlay_none lines n ways = overlay_from_none (kept_of (replicate n (empty_set ways))) 0 lines (kept_none n ways)
+
+-- sets that keep no line fit any lines of the same number
+pub keeps_none : (n ways : ℕ) (old new : List (List ℕ)) → length new ≡ length old → KeepsUnder (replicate n (empty_set ways)) old new
+keeps_none n ways old new len = record {
+  len = len;
+  kept = λ line some. absurd (let none = ap is_some (kept_none n ways line) in cc);
+}
+
+-- the lines of a memory that no level keeps a line of
+pub start_lines : (settings : Settings) (store : Store) → lines_of (start_memory settings store) ≡ store.lines
+start_lines settings store =
+    overlay_none (lines_below (start_memory settings store).below) settings.l1_sets settings.l1_ways ∙ overlay_none store.lines settings.l2_sets (2 * settings.l2_ways)
+
+flatten_zeros : (n : ℕ) → flatten (replicate n zero_line) ≡ replicate (64 * n) 0
+flatten_zeros zero = refl
+flatten_zeros (suc n) =
+    let size : 64 + 64 * n ≡ 64 * suc n = omega arith in
+    ap (λ rest. zero_line ++ rest) (flatten_zeros n) ∙ replicate-append-replicate 64 (64 * n) 0 ∙ ap (λ k. replicate k 0) size
+
+-- the bytes of a memory over a fresh store
+pub start_bytes : (settings : Settings) → bytes_of (start_memory settings (fresh settings.codec settings.geometry.pages settings.frames)) ≡ replicate (4096 * settings.geometry.pages) 0
+start_bytes settings =
+    let pages = settings.geometry.pages in
+    let size : 64 * (64 * pages) ≡ 4096 * pages = omega arith in
+    ap flatten (start_lines settings (fresh settings.codec pages settings.frames)) ∙ flatten_zeros (64 * pages) ∙ ap (λ k. replicate k 0) size

@@ -1,5 +1,5 @@
 -- The image, placed page by page.
-use Rattle.std.proofs.Common.{◌≡◌, ◌≢◌, ℕ, zero, suc, ◌+◌, ◌-◌, ◌*◌, ◌<◌, ◌≤◌, List, [], ◌++◌, length, replicate, take, drop, get_or, Some, slice_get, refl, sym, ◌∙◌, ap, subst, arith, append_assoc, inl, inr}
+use Rattle.std.proofs.Common.{◌≡◌, ◌≢◌, ℕ, zero, suc, ◌+◌, ◌-◌, ◌*◌, ◌<◌, ◌≤◌, List, [], ◌++◌, length, replicate, take, drop, get_or, Some, slice_get, refl, sym, ◌∙◌, ap, arith, append_assoc, length-append, inl, inr}
 use Rattle.std.proofs.Math.Seq.{take-append_seam, drop-append_seam, drop-append-add}
 use Rattle.std.proofs.lemmas.List.{append-nil, length-replicate, replicate-append-replicate, take-replicate, drop-replicate}
 use Rattle.hier_types.specs.declared.settings.Codec.{Codec}
@@ -12,7 +12,7 @@ use Rattle.page_store.specs.Pages.{with_page, lines_of}
 use Rattle.page_store.specs.Store.{HasZero, Store}
 use Rattle.page_store.proofs.ListLemmas.{get-set_other}
 use Rattle.hier_machine.specs.Lines.{line_in, lines_before}
-use Rattle.hier_machine.specs.Placed.{PlacedUpTo, zero_page}
+use Rattle.hier_machine.specs.Placed.{AwaitsImage, PlacedUpTo, zero_page}
 
 -- a line of a page
 line_of_page : (image : Loaded) (page index : ℕ) → index < 64 → take 64 (drop (64 * index) (page_of image.span image.file page)) ≡ line_in image (64 * page + index)
@@ -129,7 +129,16 @@ placed_all image codec frames s h =
     let none : 64 * (image.span.pages - image.span.pages) ≡ 0 = omega arith in
     (placed_facts image codec frames image.span.pages s (omega arith) h).lines ∙ ap (λ n. tabulate (line_in image) (64 * image.span.pages) ++ replicate n zero_line) none ∙ append-nil (tabulate (line_in image) (64 * image.span.pages))
 
-pub placed_length : (image : Loaded) (codec : Codec) (frames pages : ℕ) (s : Store) → image.span.pages ≡ pages → PlacedUpTo image codec frames pages s → length s.lines ≡ 64 * pages
-placed_length image codec frames pages s same h =
-    let all : PlacedUpTo image codec frames image.span.pages s = subst (λ n. PlacedUpTo image codec frames n s) (sym same) h in
-    ap length (placed_all image codec frames s all) ∙ length-tabulate (line_in image) (64 * image.span.pages) ∙ ap (λ n. 64 * n) same
+placed_size : (image : Loaded) (codec : Codec) (frames page : ℕ) (s : Store) → page ≤ image.span.pages → PlacedUpTo image codec frames page s → length s.lines ≡ 64 * image.span.pages
+placed_size image codec frames page s within h =
+    let front = tabulate (line_in image) (64 * page) in
+    let back = replicate (64 * (image.span.pages - page)) zero_line in
+    let lines : length s.lines ≡ length (front ++ back) = ap length (placed_facts image codec frames page s within h).lines in
+    omega (arith, lines, length-append front back, length-tabulate (line_in image) (64 * page), length-replicate (64 * (image.span.pages - page)) zero_line)
+
+-- the lines stay as many
+pub placed_lines : (image : Loaded) (pages page : ℕ) (before s : Store) → AwaitsImage image pages before → page ≤ image.span.pages
+    → PlacedUpTo image before.codec (length before.used) page s → length s.lines ≡ length before.lines
+placed_lines image pages page before s awaits within h =
+    let none : PlacedUpTo image before.codec (length before.used) 0 before = rw awaits.same awaits.empty in
+    placed_size image before.codec (length before.used) page s within h ∙ sym (placed_size image before.codec (length before.used) 0 before (omega arith) none)

@@ -3,6 +3,7 @@ use Rattle.std.proofs.Common.{◌≡◌, ◌<◌, ◌≤◌, ◌+◌, ◌%◌, �
 use Rattle.std.proofs.Math.Nat.{suc-mod}
 use Rattle.hier_types.specs.declared.beats.Beat.{Beat}
 use Rattle.hier_types.specs.declared.beats.Beat.TheVariants.{Hart, Mover, Cleaner}
+use Rattle.hier_types.specs.Causes.{raised}
 use Rattle.hier_types.specs.Span.{Span}
 use Rattle.sys_shim.specs.Streams.{AreUntouched, FaultsStay, Streams}
 use Rattle.rv_guest.specs.declared.ends.MachineEnd.{MachineEnd}
@@ -40,12 +41,16 @@ below start a stays lt = subst (λ n. a.guest.retired < n) stays.budget lt
 passed_more : (start a b : State) (count : ℕ) (beat : Beat) (second : Streams) → Passed start count a → IsBeat start.beats count beat → Beats beat a None b second → Passed start (suc count) b
 passed_more start a b count beat second passed is did = (a, beat, second, passed, is, did)
 
-quiet_beat : (start a b : State) (count : ℕ) (beat : Beat) (first second : Streams) → RunsSoFar start a count first → Meets first second → FaultsStay second → IsBeat start.beats count beat → Beats beat a None b second → b ≡ a → AreUntouched second → RunsSoFar start b (suc count) (over first second)
-quiet_beat start a b count beat first second so meets faults is did same quiet = record {
+-- a turn of the mover or the cleaner, which changes nothing but these counts
+abbrev pub turned : State → ℕ → ℕ → State
+turned s mover cleaner = record s { mover_turns = mover; cleaner_turns = cleaner }
+
+quiet_beat : (start a b : State) (count : ℕ) (beat : Beat) (first second : Streams) (mover cleaner : ℕ) → RunsSoFar start a count first → Meets first second → FaultsStay second → IsBeat start.beats count beat → Beats beat a None b second → b ≡ turned a mover cleaner → AreUntouched second → RunsSoFar start b (suc count) (over first second)
+quiet_beat start a b count beat first second mover cleaner so meets faults is did same quiet = record {
   runs = lemmas.runs_quiet start.memory.span start.budget start.guest a.guest b.guest first second so.runs meets faults (ap (λ (s : State). s.guest) same) quiet;
   passed = passed_more start a b count beat second so.passed is did;
-  stays = rw same so.stays;
-  running = rw same so.running;
+  stays = stays_join start a b so.stays (rw same (record { span = refl; budget = refl; beats = refl }));
+  running = ap (λ (s : State). s.ended) same ∙ so.running;
 }
 
 -- a beat after which the run goes on
@@ -56,8 +61,8 @@ runs_on Hart start a b count first second so meets lt faults is h = record {
   stays = stays_join start a b so.stays h.stays;
   running = h.ended;
 }
-runs_on Mover start a b count first second so meets lt faults is h = quiet_beat start a b count Mover first second so meets faults is h h.1 h.2
-runs_on Cleaner start a b count first second so meets lt faults is h = quiet_beat start a b count Cleaner first second so meets faults is h h.1 h.2
+runs_on Mover start a b count first second so meets lt faults is h = quiet_beat start a b count Mover first second (raised a.mover_turns) a.cleaner_turns so meets faults is h h.1 h.2
+runs_on Cleaner start a b count first second so meets lt faults is h = quiet_beat start a b count Cleaner first second a.mover_turns (raised a.cleaner_turns) so meets faults is h h.1 h.2
 
 -- the last beat, where the budget was not used up
 last_beat : (start : State) (count : ℕ) (last : State) (end : MachineEnd) (new : State) (beat : Beat) (streams : Streams) → IsBeat start.beats count beat → Beats beat last (Some end) new streams → HartBeats last (Some end) new streams → LastBeat start count last end new
@@ -81,7 +86,7 @@ runs_end Cleaner start a b count end first second so meets lt is h = absurd (let
 
 -- a machine that has ended, and is otherwise as it was
 abbrev pub ended : State → State
-ended m = record { memory = m.memory; guest = m.guest; budget = m.budget; beats = m.beats; ended = true }
+ended m = record m { ended = true }
 
 -- the budget is used up
 pub runs_budget : (start a : State) (count : ℕ) (s : Streams) → RunsSoFar start a count s → a.budget ≤ a.guest.retired → Runs start Budget (ended a) s

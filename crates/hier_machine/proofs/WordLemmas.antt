@@ -7,9 +7,11 @@ use Rattle.std.specs.List.{list_any}
 use Rattle.hier_types.specs.declared.beats.Beat.{Beat}
 use Rattle.hier_types.specs.declared.beats.Beat.TheVariants.{Hart, Mover, Cleaner}
 use Rattle.hier_types.specs.Beats.{IsBeatWord, is_hart}
+use Rattle.hier_types.specs.Causes.{raised}
 use Rattle.sys_shim.specs.Streams.{Streams}
 use Rattle.hier_machine.specs.Beats.{Beats}
 use Rattle.hier_machine.specs.State.{State}
+use Rattle.hier_machine.proofs.RunLemmas.{turned}
 use Rattle.hier_machine.specs.Words.{before_hart, gap}
 
 before_hart-le : (beats : List Beat) → before_hart beats ≤ length beats
@@ -67,8 +69,8 @@ work_left state place = (state.budget - state.guest.retired) * 129 + gap state.b
 gap-le : (beats : List Beat) (place : ℕ) → length beats ≤ 64 → gap beats place ≤ 128
 gap-le beats place short = omega (arith, before_hart-le (drop place beats ++ beats), length-append (drop place beats) beats, length-drop place beats)
 
-idle_shrinks : (a b : State) (place : ℕ) (beat : Beat) → IsBeatWord a.beats → slice_get a.beats place ≡ Some beat → is_hart beat ≡ false → place < length a.beats → b ≡ a → work_left b ((place + 1) % length a.beats) < work_left a place
-idle_shrinks a b place beat word at other inside same =
+idle_shrinks : (a b : State) (place mover cleaner : ℕ) (beat : Beat) → IsBeatWord a.beats → slice_get a.beats place ≡ Some beat → is_hart beat ≡ false → place < length a.beats → b ≡ turned a mover cleaner → work_left b ((place + 1) % length a.beats) < work_left a place
+idle_shrinks a b place mover cleaner beat word at other inside same =
     rw same (omega (arith, gap_falls a.beats place beat word.acts at other inside))
 
 -- each beat brings the end nearer
@@ -77,5 +79,5 @@ pub work_shrinks : (beat : Beat) (a b : State) (out : Streams) (place count : �
 work_shrinks Hart a b out place count word at len inside lt h =
     let short : length b.beats ≤ 64 = rw h.stays.beats word.short in
     omega (arith, h.stays.budget, h.does.retired, gap-le b.beats ((place + 1) % count) short)
-work_shrinks Mover a b out place count word at len inside lt h = rw len (idle_shrinks a b place Mover word at refl (omega arith) h.1)
-work_shrinks Cleaner a b out place count word at len inside lt h = rw len (idle_shrinks a b place Cleaner word at refl (omega arith) h.1)
+work_shrinks Mover a b out place count word at len inside lt h = rw len (idle_shrinks a b place (raised a.mover_turns) a.cleaner_turns Mover word at refl (omega arith) h.1)
+work_shrinks Cleaner a b out place count word at len inside lt h = rw len (idle_shrinks a b place a.mover_turns (raised a.cleaner_turns) Cleaner word at refl (omega arith) h.1)

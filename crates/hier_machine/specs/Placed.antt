@@ -1,5 +1,6 @@
 -- The image, placed into a memory of pages.
-use Rattle.std.specs.Prelude.{◌≡◌, ◌≢◌, ◌⊎◌, ℕ, zero, suc, List, Ok, Err, replicate}
+use Rattle.std.specs.Prelude.{◌≡◌, ◌≢◌, ◌≤◌, ◌⊎◌, ℕ, zero, suc, List, Ok, Err, IfErr, OnOk, length, replicate}
+use Rattle.hier_types.specs.Calls.{Answer}
 use Rattle.hier_types.specs.declared.faults.NoSpace.{NoSpace}
 use Rattle.hier_types.specs.declared.settings.Codec.{Codec}
 use Rattle.elf_image.specs.Image.{Loaded, page_of}
@@ -30,6 +31,18 @@ pub record NoRoomFor (image : Loaded) (codec : Codec) (frames : ℕ) (refusal : 
   pub after : Store
   pub refused : PlacesPage mid refusal.page.0 (page_of image.span image.file refusal.page.0) (Err refusal) after
   pub tight : Tight codec frames (lines_before image refusal.page.0) refusal.page.0 refusal.order
+
+-- A store in which no page of the image is placed yet.
+pub record AwaitsImage (image : Loaded) (pages : ℕ) (s : Store) : Type 0 where
+  pub same : image.span.pages ≡ pages
+  pub few : pages ≤ 65536
+  pub empty : s ≡ fresh s.codec pages (length s.used)
+
+-- All pages of the image were placed, or one found no room. The lines are as many as before.
+pub record PlacesImage (image : Loaded) (pages : ℕ) (s : Store) (result : Answer) (t : Store) : Type 0 where
+  pub ok : OnOk result (PlacedUpTo image s.codec (length s.used) pages t)
+  pub err : IfErr result (NoRoomFor image s.codec (length s.used))
+  pub size : length t.lines ≡ length s.lines
 
 -- why no machine was opened; want of memory has no further cause
 abbrev pub IsOpenFault : Loaded → Codec → ℕ → OpenFault → Type 0

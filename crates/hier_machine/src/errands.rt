@@ -1,42 +1,74 @@
 // Work on the layers below the first level.
+ghost use Rattle.std.specs.Prelude.{◌≡◌, IfErr, OnOk};
+ghost use Rattle.hier_types.specs.Settings.{AreWithinRules};
+ghost use Rattle.page_store.specs.Store.{fresh};
+ghost use Rattle.recency.specs.Levels.{KeepsUnder};
+ghost use Rattle.hier_machine.specs.Memory.{store_of};
+ghost use Rattle.hier_machine.specs.Placed.{NoRoomFor, PlacedUpTo};
+ghost use Rattle.hier_machine.specs.Start.{start_memory};
+
+use crate::opening::place_image;
 use elf_image::Image;
-use hier_types::{Errand, Layer, NoSpace};
+use hier_types::{Errand, Layer, NoSpace, Settings};
+use l1_cache::L1;
 use l2_cache::L2;
 use page_store::Pages;
 
-use crate::opening::place_image;
-
 /// An errand to the layer under a second level.
+#[derive(Drop)]
 pub(crate) struct Through<E> {
     pub errand: E,
 }
 
 impl<B: Layer, E: Errand<B>> Errand<L2<B>> for Through<E> {
+    ghost may_go = { λ d s. E.may_go d.errand s.below × ((after : E) (below : B) → E.did_go d.errand s.below after below → KeepsUnder s.sets (B.content s.below) (B.content below)) };
+
+    ghost did_go = { λ d s e t. E.did_go d.errand s.below e.errand t.below × (t ≡ record s { below = t.below }) };
+
     fn go(&mut self, below: &mut L2<B>) {
         below.below_do(&mut self.errand);
     }
 }
 
 /// Places the pages of an image.
-pub(crate) struct Placing<'a> {
+#[derive(Drop)]
+struct Placing<'a> {
     image: &'a Image,
     pages: u32,
-    pub answer: Result<(), NoSpace>,
+    answer: Result<(), NoSpace>,
 }
 
 impl Errand<Pages> for Placing<'_> {
+    ghost use Rattle.hier_machine.specs.Placed.{AwaitsImage, PlacesImage};
+
+    ghost may_go = { λ p s. AwaitsImage p.image.now p.pages s };
+
+    ghost did_go = { λ p s q t. PlacesImage p.image.now p.pages s q.answer t };
+
     fn go(&mut self, below: &mut Pages) {
         self.answer = place_image(below, self.image, self.pages);
     }
 }
 
-/// Writes the changed lines of a second level down.
-pub(crate) struct FlushSecond {
-    pub answer: Result<(), NoSpace>,
-}
-
-impl<B: Layer> Errand<L2<B>> for FlushSecond {
-    fn go(&mut self, below: &mut L2<B>) {
-        self.answer = below.flush();
-    }
+/// Places the pages of an image that are not zero, in rising order, up to one that finds no room. No level keeps a line.
+pub fn place_under(
+    memory: &mut L1<L2<Pages>>,
+    settings: &Settings,
+    image: &Image,
+) -> Result<(), NoSpace>
+    requires same { image.now.span ≡ settings.now.geometry }
+    requires rules { AreWithinRules settings.now }
+    requires empty { memory.old ≡ start_memory settings.now (fresh settings.now.codec settings.now.geometry.pages settings.now.frames) }
+    ensures memory { memory.new ≡ start_memory settings.now (store_of memory.new) }
+    ensures ok { OnOk result (PlacedUpTo image.now settings.now.codec settings.now.frames settings.now.geometry.pages (store_of memory.new)) }
+    ensures err { IfErr result (NoRoomFor image.now settings.now.codec settings.now.frames) }
+{
+    let placing = Placing {
+        image,
+        pages: settings.geometry.pages,
+        answer: Ok(()),
+    };
+    let mut errand = Through { errand: placing };
+    memory.below_do(&mut errand);
+    errand.errand.answer
 }

@@ -4,6 +4,7 @@
 #![tactic(auto)]
 
 mod ends;
+mod errands;
 mod machine;
 mod opening;
 mod page_view;

@@ -1,30 +1,25 @@
 // The guest over its memory, beat by beat.
 ghost use Rattle.std.specs.Prelude.{◌≡◌, ◌*◌, ◌-◌, ◌^◌, ◌<◌, ◌≤◌, false, IfErr, IfOk, length, take, drop};
 ghost use Rattle.hier_types.specs.Settings.{AreWithinRules};
-ghost use Rattle.rv_core.specs.Accesses.{IsAccess};
+ghost use Rattle.rv_guest.specs.State.{start_state};
 ghost use Rattle.sys_shim.specs.Streams.{FaultsStay, stream, streams};
-ghost use Rattle.hier_machine.specs.Accesses.{AccessBeats};
 ghost use Rattle.hier_machine.specs.Beats.{Beats, HartBeats};
+ghost use Rattle.hier_machine.specs.Memory.{bytes_of};
 ghost use Rattle.hier_machine.specs.Placed.{IsOpenFault};
 ghost use Rattle.hier_machine.specs.Runs.{Runs};
-ghost use Rattle.hier_machine.specs.Settles.{Reports, SettlesMachine, counts_of};
 ghost use Rattle.hier_machine.specs.Spaces.{AreFreeCounts, IsSpaceEnd};
 ghost use Rattle.hier_machine.specs.Start.{Starts, StartsEmpty, start_memory};
-ghost use Rattle.run_report.specs.ReportLines.{HasBlocksIfDone};
 
 use crate::ends::OpenFault;
-use crate::errands::{FlushSecond, Placing, Through};
+use crate::errands::place_under;
 use crate::page_view::view_page;
 use elf_image::Image;
-use hier_types::{
-    Access, Beat, BeatWord, Layer, NoMemory, NoSpace, PageCounts, PageNo, Port, Settings, Sink,
-    Source,
-};
+use hier_types::{Beat, BeatWord, Layer, NoMemory, NoSpace, PageNo, Port, Settings, Sink, Source};
 use l1_cache::L1;
 use l2_cache::L2;
 use page_store::Pages;
-use run_report::{Counts, End, Report, Settled};
-use rv_core::{Regs, access};
+use run_report::End;
+use rv_core::Regs;
 use rv_guest::{Guest, MachineEnd};
 use std::alloc::Global;
 use std::marker::Model;
@@ -68,11 +63,11 @@ impl Machine {
         ensures ok { IfOk result (Starts settings.now image.now.file) }
         ensures err { IfErr result (IsOpenFault image.now settings.now.codec settings.now.frames) }
     {
-        let guest = Guest::start(image.entry(), image.end(), &settings.geometry);
-        let Ok(mut machine) = Machine::over_zeros(alloc, settings, guest) else {
+        let Ok(mut machine) = Machine::over_zeros(alloc, settings, image.entry(), image.end())
+        else {
             return Err(OpenFault::NoMemory);
         };
-        if let Err(refusal) = machine.place(image) {
+        if let Err(refusal) = place_under(&mut machine.memory, settings, image) {
             return Err(OpenFault::NoRoom(refusal));
         }
         Ok(machine)
@@ -84,35 +79,31 @@ impl Machine {
         ensures { IfOk result (StartsEmpty settings.now) }
     {
         let first = settings.geometry.first();
-        let guest = Guest::start(first, first, &settings.geometry);
-        Machine::over_zeros(alloc, settings, guest)
+        Machine::over_zeros(alloc, settings, first, first)
     }
 
-    /// A machine with all its memory, whose pages are zero, and this guest.
-    fn over_zeros(alloc: Global, settings: &Settings, guest: Guest) -> Result<Self, NoMemory>
+    /// A machine with all its memory, whose pages are zero. Its guest stands at an entry, with its break at an end.
+    fn over_zeros(
+        alloc: Global,
+        settings: &Settings,
+        entry: u32,
+        end: u32,
+    ) -> Result<Self, NoMemory>
         requires { AreWithinRules settings.now }
-        // NEEDS A CLAUSE
+        ensures empty { IfOk result (StartsEmpty settings.now) }
+        ensures guest { IfOk result (λ machine. machine.guest ≡ start_state settings.now.geometry entry end (bytes_of machine.memory)) }
     {
         let beats = settings.beats.clone()?;
         let store = Pages::new(alloc, settings.geometry, settings.frames, settings.codec)?;
         Ok(Machine {
             memory: levels_over(alloc, store, settings)?,
-            guest,
+            guest: Guest::start(entry, end, &settings.geometry),
             budget: settings.budget,
             beats,
             mover_turns: 0,
             cleaner_turns: 0,
             ended: false,
         })
-    }
-
-    /// Places the pages of the image that are not zero, in rising order, while no level keeps a line.
-    fn place(&mut self, image: &Image) -> Result<(), NoSpace>
-        // NEEDS CLAUSES
-    {
-        let mut placing = Through::new(Placing::new(image));
-        self.memory.below_do(&mut placing);
-        placing.errand.answer
     }
 
     /// The registers.
@@ -136,21 +127,6 @@ impl Machine {
         ensures { result.now ≡ self.now.memory.below.below }
     {
         self.memory.below().below()
-    }
-
-    /// What both levels, the memory of pages and the turns of the mover and the cleaner have counted.
-    pub fn counts(&self) -> Counts
-        ensures { result ≡ counts_of self.now }
-    {
-        Counts {
-            l1: self.memory.counts(),
-            l2: self.memory.below().counts(),
-            pages: PageCounts {
-                mover_turns: self.mover_turns,
-                ..self.pages().counts()
-            },
-            cleaner_turns: self.cleaner_turns,
-        }
     }
 
     /// How many instructions retired, or accesses were made.
@@ -201,54 +177,6 @@ impl Machine {
                 self.cleaner_turns = self.cleaner_turns.saturating_add(1);
                 None
             }
-        }
-    }
-
-    /// The hart's beat of a trace: one access, which gives the value that it loads, or 0 for a store. It counts like an
-    /// instruction, and touches one line.
-    pub fn beat_access(&mut self, access_made: &Access) -> Result<u32, NoSpace>
-        requires access { IsAccess self.old.memory.span access_made.now }
-        requires room { self.old.guest.retired < 2 ^ 64 - 1 }
-        ensures { AccessBeats self.old access_made.now result self.new }
-    {
-        let value = match access(&mut self.memory, access_made) {
-            Ok(value) => value,
-            Err(refusal) => return Err(refusal),
-        };
-        self.guest.retired += 1;
-        Ok(value)
-    }
-
-    /// Writes every changed line down to the pages: those of the first level to the second, and then those of the second
-    /// to the store. It stops at the first one that is refused. No byte of the guest changes.
-    pub fn settle(&mut self) -> Result<(), NoSpace>
-        ensures { SettlesMachine self.old result self.new }
-    {
-        if let Err(refusal) = self.memory.flush() {
-            return Err(refusal);
-        }
-        let mut flush = FlushSecond::new();
-        self.memory.below_do(&mut flush);
-        flush.answer
-    }
-
-    /// The report of a run or a trace that came to this end: its counts as they stand now, and then what the pages take
-    /// once every changed line was written down to them.
-    pub fn report(&mut self, end: End) -> Report
-        ensures reports { Reports self.old end result self.new }
-        ensures blocks { HasBlocksIfDone result.settled }
-    {
-        let retired = self.retired();
-        let counts = self.counts();
-        let settled = match self.settle() {
-            Ok(()) => Settled::Done(self.pages().totals()),
-            Err(refusal) => Settled::Space(refusal),
-        };
-        Report {
-            end,
-            retired,
-            counts,
-            settled,
         }
     }
 

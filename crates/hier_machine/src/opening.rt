@@ -1,8 +1,8 @@
 // The memory with the image in it.
-ghost use Rattle.std.specs.Prelude.{◌≡◌, ◌≤◌, Err, IfErr, OnOk, length};
+ghost use Rattle.std.specs.Prelude.{Err, IfErr, OnOk};
 ghost use Rattle.page_store.specs.Calls.{PlacesPage};
-ghost use Rattle.page_store.specs.Store.{HasZero, fresh};
-ghost use Rattle.hier_machine.specs.Placed.{NoRoomFor, PlacedUpTo, PlacesBytes};
+ghost use Rattle.page_store.specs.Store.{HasZero};
+ghost use Rattle.hier_machine.specs.Placed.{AwaitsImage, PlacesBytes, PlacesImage};
 
 use elf_image::Image;
 use hier_types::{NoSpace, PageNo};
@@ -10,11 +10,8 @@ use page_store::Pages;
 
 /// Places the pages of an image that are not zero, in rising order, up to one that finds no room.
 pub fn place_image(store: &mut Pages, image: &Image, pages: u32) -> Result<(), NoSpace>
-    requires same { image.now.span.pages ≡ pages }
-    requires few { pages ≤ 65536 }
-    requires empty { store.old ≡ fresh store.old.codec pages (length store.old.used) }
-    ensures ok { OnOk result (PlacedUpTo image.now store.old.codec (length store.old.used) pages store.new) }
-    ensures err { IfErr result (NoRoomFor image.now store.old.codec (length store.old.used)) }
+    requires { AwaitsImage image.now pages store.old }
+    ensures { PlacesImage image.now pages store.old result store.new }
 {
     let mut bytes = [0; 4096];
     for number in 0..pages {
