@@ -40,22 +40,21 @@ TakesMemory settings (Reported report) = settings.json ≡ true
 abbrev pub Tells : Settings → Notice → List ℕ → End → Type 0
 Tells settings notice text end = ((text ≡ text_of settings notice) × (end ≡ end_of notice)) ⊎ (TakesMemory settings notice × (text ≡ note_text NoMemory None) × (end ≡ NoMemory))
 
--- the text stands on the note, or a front of it where the note failed, which takes the end's place
-abbrev pub IsNoted : List ℕ → End → Stream → End → Type 0
-IsNoted text own note NoteFault = FailsToTake note text
-IsNoted text own note end = (end ≡ own) × Appends note.before note.after text
+-- the text was written to a stream, and the work ends so; or a front of it, where the stream failed, which has an end of its own
+abbrev pub IsWritten : List ℕ → Stream → End → End → End → Type 0
+IsWritten text out own failed end = ((end ≡ own) × Appends out.before out.after text) ⊎ ((end ≡ failed) × FailsToTake out text)
+
+-- the end of the work, by what the last call of the stream answered
+abbrev pub end_after : End → End → Result (Unit {0}) Failed → End
+end_after own failed (Ok u) = own
+end_after own failed (Err e) = failed
 
 -- The note tells of a notice, and the work ends so.
 pub record NotesNotice (settings : Settings) (notice : Notice) (note : Stream) (end : End) : Type 0 where
   pub text : List ℕ
   pub own : End
   pub tells : Tells settings notice text own
-  pub noted : IsNoted text own note end
-
--- the end of the work, by what the last call of the note answered
-abbrev pub noted_end : End → Result (Unit {0}) Failed → End
-noted_end end (Ok u) = end
-noted_end end (Err failed) = NoteFault
+  pub written : IsWritten text note own NoteFault end
 
 -- the exit code of each end
 abbrev pub code_of : End → ℕ
@@ -77,6 +76,6 @@ code_of NoteFault = 212
 code_of NoMemory = 213
 code_of (NotBuilt part) = 214
 
--- A text is written to a stream at the end of the work, whose end is this where nothing fails.
+-- a result is printed, and the work ends so, or at the output
 abbrev pub IsPrinted : List ℕ → Stream → End → End → Type 0
-IsPrinted text out own end = ((end ≡ own) × Appends out.before out.after text) ⊎ ((end ≡ OutFault) × FailsToTake out text)
+IsPrinted text out own end = IsWritten text out own OutFault end

@@ -8,7 +8,7 @@ ghost use Rattle.sys_shim.specs.Streams.{stream, streams};
 ghost use Rattle.hier_cli.specs.Images.{EndsImage, image_text, text_of_page};
 ghost use Rattle.hier_cli.specs.Notices.{IsTellable};
 
-use crate::notice::Notice;
+use crate::notice::{Notice, end_after};
 use crate::runs::{end_of_machine, opened};
 use hier_machine::Machine;
 use hier_types::{Failed, Geometry, NullSink, PAGE_BYTES, PageNo, Settings, Sink, Source};
@@ -34,12 +34,10 @@ pub(crate) fn run_for_image<I: Source, O: Sink>(
     let end = machine.run(input, &mut NullSink);
     let own = end_of_machine(&machine, end);
     let retired = machine.retired();
-    match print_pages(&machine, settings.geometry, out) {
-        Ok(()) => Notice::Retired { end: own, retired },
-        Err(Failed) => Notice::Retired {
-            end: End::OutFault,
-            retired,
-        },
+    let printed = print_pages(&machine, settings.geometry, out);
+    Notice::Retired {
+        end: end_after(own, End::OutFault, printed),
+        retired,
     }
 }
 

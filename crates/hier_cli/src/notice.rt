@@ -2,7 +2,7 @@
 ghost use Rattle.std.specs.Prelude.{◌≡◌, true};
 ghost use Rattle.run_report.specs.ReportLines.{CanBeTold};
 ghost use Rattle.sys_shim.specs.Streams.{stream};
-ghost use Rattle.hier_cli.specs.Notices.{IsTellable, NotesNotice, noted_end};
+ghost use Rattle.hier_cli.specs.Notices.{IsTellable, NotesNotice, end_after};
 ghost use Rattle.hier_cli.specs.declared.notice.Notice.TheVariants.{Reported};
 
 use hier_types::{Failed, Settings, Sink};
@@ -32,10 +32,16 @@ pub(crate) fn write_notice<N: Sink>(
     ensures { NotesNotice settings.now notice (stream (N.written note.old) (N.written note.new) (N.faults note.old) (N.faults note.new)) result }
 {
     match notice {
-        Notice::Ended(end) => noted(end, write_end(&end, None, note)),
-        Notice::Retired { end, retired } => noted(end, write_end(&end, Some(retired), note)),
+        Notice::Ended(end) => end_after(end, End::NoteFault, write_end(&end, None, note)),
+        Notice::Retired { end, retired } => {
+            end_after(end, End::NoteFault, write_end(&end, Some(retired), note))
+        }
         Notice::Reported(report) if settings.json => write_json(alloc, &report, settings, note),
-        Notice::Reported(report) => noted(report.end, write_text(&report, &settings.geometry, note)),
+        Notice::Reported(report) => end_after(
+            report.end,
+            End::NoteFault,
+            write_text(&report, &settings.geometry, note),
+        ),
     }
 }
 
@@ -46,17 +52,21 @@ fn write_json<N: Sink>(alloc: Global, report: &Report, settings: &Settings, note
     ensures { NotesNotice settings.now (Reported report.now) (stream (N.written note.old) (N.written note.new) (N.faults note.old) (N.faults note.new)) result }
 {
     match to_json(alloc, report, &settings.geometry) {
-        Ok(text) => noted(report.end, note.write(&text)),
-        Err(_) => noted(End::NoMemory, write_end(&End::NoMemory, None, note)),
+        Ok(text) => end_after(report.end, End::NoteFault, note.write(&text)),
+        Err(_) => end_after(
+            End::NoMemory,
+            End::NoteFault,
+            write_end(&End::NoMemory, None, note),
+        ),
     }
 }
 
-/// The end, unless the note failed.
-fn noted(end: End, written: Result<(), Failed>) -> End
-    ensures { result ≡ noted_end end written }
+/// The end of work whose last step was a write.
+pub(crate) fn end_after(own: End, failed: End, written: Result<(), Failed>) -> End
+    ensures { result ≡ end_after own failed written }
 {
     match written {
-        Ok(()) => end,
-        Err(Failed) => End::NoteFault,
+        Ok(()) => own,
+        Err(Failed) => failed,
     }
 }

@@ -7,21 +7,13 @@ ghost use Rattle.run_report.specs.ReportLines.{survey_text};
 ghost use Rattle.hier_cli.specs.Notices.{IsTellable};
 ghost use Rattle.hier_cli.specs.Surveys.{PrintedOrNoMemory, demo_file};
 
-use crate::notice::Notice;
-use hier_types::{Codec, Failed, Sink};
+use crate::notice::{Notice, end_after};
+use hier_types::{Codec, Sink};
 use run_report::{End, write_survey};
 use rv_asm::demo_program;
 use sim_survey::survey;
 use std::alloc::Global;
 use std::thread::Threads;
-
-/// The end of work whose result was printed.
-fn printed(written: Result<(), Failed>) -> Notice {
-    match written {
-        Ok(()) => Notice::Ended(End::Done),
-        Err(Failed) => Notice::Ended(End::OutFault),
-    }
-}
 
 /// Prints what the pages of a file take at their plans.
 pub(crate) fn survey_file<R: Threads + Sync, O: Sink>(
@@ -36,7 +28,9 @@ pub(crate) fn survey_file<R: Threads + Sync, O: Sink>(
     ensures tellable { IsTellable result }
 {
     match survey(rt, alloc, codec, file) {
-        Ok(totals) => printed(write_survey(&totals, out)),
+        Ok(totals) => {
+            Notice::Ended(end_after(End::Done, End::OutFault, write_survey(&totals, out)))
+        },
         Err(_) => Notice::Ended(End::NoMemory),
     }
 }
@@ -47,7 +41,7 @@ pub(crate) fn write_demo<O: Sink>(alloc: Global, number: u32, out: &mut O) -> No
     ensures tellable { IsTellable result }
 {
     match demo_program(alloc, number) {
-        Ok(file) => printed(out.write(&file)),
+        Ok(file) => Notice::Ended(end_after(End::Done, End::OutFault, out.write(&file))),
         Err(_) => Notice::Ended(End::NoMemory),
     }
 }
