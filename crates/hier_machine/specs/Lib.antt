@@ -2,7 +2,9 @@ pub mod Beats
 pub mod Lines
 pub mod Memory
 pub mod Placed
+pub mod Reports
 pub mod Runs
+pub mod Settles
 pub mod Spaces
 pub mod Start
 pub mod State

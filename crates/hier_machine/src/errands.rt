@@ -72,3 +72,28 @@ pub fn place_under(
     memory.below_do(&mut errand);
     errand.errand.answer
 }
+
+/// Writes the changed lines of the second level down to the pages.
+#[derive(Drop)]
+pub(crate) struct FlushSecond {
+    pub answer: Result<(), NoSpace>,
+}
+
+impl FlushSecond {
+    /// The errand before it is done.
+    pub fn new() -> Self {
+        FlushSecond { answer: Ok(()) }
+    }
+}
+
+impl Errand<L2<Pages>> for FlushSecond {
+    ghost use Rattle.hier_machine.specs.Settles.{FlushesDown};
+
+    ghost may_go = { λ _ _. Unit {0} };
+
+    ghost did_go = { λ _ before errand after. FlushesDown before errand.answer after };
+
+    fn go(&mut self, below: &mut L2<Pages>) {
+        self.answer = below.flush();
+    }
+}

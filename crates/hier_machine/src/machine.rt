@@ -129,6 +129,21 @@ impl Machine {
         self.memory.below().below()
     }
 
+    /// What both levels, the memory of pages and the turns of the mover and the cleaner have counted.
+    pub fn counts(&self) -> Counts
+        ensures { result ≡ counts_of self.now }
+    {
+        Counts {
+            l1: self.memory.counts(),
+            l2: self.memory.below().counts(),
+            pages: PageCounts {
+                mover_turns: self.mover_turns,
+                ..self.pages().counts()
+            },
+            cleaner_turns: self.cleaner_turns,
+        }
+    }
+
     /// How many instructions retired, or accesses were made.
     pub fn retired(&self) -> u64
         ensures { result ≡ self.now.guest.retired }
@@ -177,6 +192,39 @@ impl Machine {
                 self.cleaner_turns = self.cleaner_turns.saturating_add(1);
                 None
             }
+        }
+    }
+
+    /// Writes every changed line down to the pages: those of the first level to the second, and then those of the second
+    /// to the store. It stops at the first one that is refused. No byte of the guest changes.
+    pub fn settle(&mut self) -> Result<(), NoSpace>
+        ensures { SettlesMachine self.old result self.new }
+    {
+        if let Err(refusal) = self.memory.flush() {
+            return Err(refusal);
+        }
+        let mut flush = FlushSecond::new();
+        self.memory.below_do(&mut flush);
+        flush.answer
+    }
+
+    /// The report of a run or a trace that came to this end: its counts as they stand now, and then what the pages take
+    /// once every changed line was written down to them.
+    pub fn report(&mut self, end: End) -> Report
+        ensures reports { Reports self.old end result self.new }
+        ensures blocks { HasBlocksIfDone result.settled }
+    {
+        let retired = self.retired();
+        let counts = self.counts();
+        let settled = match self.settle() {
+            Ok(()) => Settled::Done(self.pages().totals()),
+            Err(refusal) => Settled::Space(refusal),
+        };
+        Report {
+            end,
+            retired,
+            counts,
+            settled,
         }
     }
 

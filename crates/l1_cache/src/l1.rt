@@ -108,7 +108,8 @@ impl<B: Layer> L1<B> {
     }
 
     /// Writes every dirty line below, by rising sets, least recent first. It stops at the first one that is refused. The
-    /// lines that were written are clean then; which lines are kept, their order, what is held and the counts stay.
+    /// lines that were written are clean then; which lines are kept, their order, what is held and the counts stay. Where
+    /// none was refused, the layer below has all lines.
     pub fn flush(&mut self) -> Result<(), NoSpace>
         ensures content { lines_of B.content self.new ≡ lines_of B.content self.old }
         ensures held { self.new.held ≡ self.old.held }
@@ -116,6 +117,7 @@ impl<B: Layer> L1<B> {
         ensures span { self.new.span ≡ self.old.span }
         ensures cause { Refuses (B.stops self.old.below) (B.stops self.new.below) (B.crowded self.new.below) result }
         ensures did { Makes B.did_read B.did_write self.old.below (Flushes result self.new.sets self.old.sets) self.new.below }
+        ensures settled { OnOk result (B.content self.new.below ≡ lines_of B.content self.new) }
     {
         let mut from = 0;
         while let Some(entry) = self.sets.next_dirty(from) {

@@ -82,7 +82,8 @@ fn lines_leave_where_their_sizes_do_not_fit(rt: HostRuntime) {
     assert_eq!(rt; level.counts(), counts);
 }
 
-/// The read of line 1 is refused, or the write of line 0, which has to leave for it. Made again, both are answered.
+/// The read of line 1 is refused, or the write of line 0, which has to leave for it. Made again, both are answered. A
+/// flush writes a line that was changed since.
 #[test]
 fn a_refused_line_stays(rt: HostRuntime) {
     for refused in [0u64, 1] {
@@ -97,6 +98,9 @@ fn a_refused_line_stays(rt: HostRuntime) {
         assert_eq!(rt; get(&mut level, 1), Some(0));
         assert_eq!(rt; byte_of(level.below(), 0), Some(7));
         assert_eq!(rt; level.counts().reads, 1);
+        assert!(rt; put(&mut level, 1, &raw(8)));
+        assert_eq!(rt; byte_of(level.below(), 1), Some(0));
         assert!(rt; level.flush().is_ok());
+        assert_eq!(rt; byte_of(level.below(), 1), Some(8));
     }
 }

@@ -2,13 +2,13 @@
 use Rattle.std.proofs.Common.{◌≡◌, ◌≤◌, ◌+◌, ◌*◌, ◌==◌, ◌∙◌, cond, ℕ, suc, Bool, Option, Some, List, [], ◌∷◌, length, map, slice_get, refl, sym, ap, arith}
 use Rattle.std.specs.List.{sum_by, count_by}
 use Rattle.std.proofs.lemmas.List.Sums.{sum_by-cons}
-use Rattle.buddy_frames.proofs.PlaceLemmas.{four}
 use Rattle.hier_types.specs.declared.settings.Codec.{Codec}
 use Rattle.page_plan.specs.declared.least.PagePlan.{PagePlan}
 use Rattle.page_plan.specs.declared.least.PagePlan.TheVariants as plan
 use Rattle.page_plan.specs.Layout.{exceptions_of, stored_sizes}
 use Rattle.page_plan.specs.PagePlan.{IsPlan, plan_of}
 use Rattle.page_plan.proofs.PlanLemmas.{IsPlan-plan_of}
+use Rattle.page_plan.proofs.TotalLemmas.{classes_sum}
 use Rattle.page_store.specs.declared.desc.Desc.{Desc}
 use Rattle.page_store.specs.declared.desc.Desc.TheVariants.{Zero, Packed, Raw}
 use Rattle.page_plan.specs.Pages.{pages_of, plans_of}
@@ -62,24 +62,6 @@ encoded_are sizes plan.Raw Zero at = absurd at
 encoded_are sizes plan.Raw (Packed block target) at = absurd at
 encoded_are sizes plan.Raw (Raw block) at = refl
 
--- the bytes of a block, by its class
-abbrev by_class : ℕ → ℕ → ℕ → ℕ → ℕ
-by_class c512 c1024 c2048 c4096 = 512 * c512 + 1024 * c1024 + 2048 * c2048 + 4096 * c4096
-
-abbrev one_if : (PagePlan → Bool) → PagePlan → ℕ
-one_if p plan = cond (p plan) 1 0
-
-block_class : (codec : Codec) (page : List (List ℕ)) (p : PagePlan) → IsPlan codec page p
-    → block_bytes p ≡ by_class (one_if (has_order 0) p) (one_if (has_order 1) p) (one_if (has_order 2) p) (one_if (has_order 3) p)
-block_class codec page plan.Zero is = refl
-block_class codec page (plan.Packed k target exceptions) is =
-    let known : k ≤ 2 = is.1.is_order.known in
-    four (λ (k : ℕ). block_bytes (plan.Packed k target exceptions)
-    ≡ by_class (one_if (has_order 0) (plan.Packed k target exceptions)) (one_if (has_order 1) (plan.Packed k target exceptions))
-    (one_if (has_order 2) (plan.Packed k target exceptions)) (one_if (has_order 3) (plan.Packed k target exceptions)))
-    k (omega arith) refl refl refl refl
-block_class codec page plan.Raw is = refl
-
 -- pages that are kept as their plans say, with the sizes of their lines
 AreKept : Codec → List (List (List ℕ)) → List Desc → List (List (Option ℕ)) → Type 0
 AreKept codec [] [] [] = Unit {0}
@@ -130,28 +112,6 @@ kept_same codec f g (page ∷ pages) (d ∷ ds) (s ∷ sizes) kept each =
     let first : f d s ≡ g page = ap (f d) kept.1 ∙ each page d kept.0 in
     let rest = kept_same codec f g pages ds sizes kept.2 each in
     omega (arith, first, rest) ∙ sym (sum_by-cons g page pages)
-
--- the bytes of all blocks, by their classes
-classes_sum : (codec : Codec) (pages : List (List (List ℕ)))
-    → sum_by block_bytes (map (plan_of codec) pages)
-    ≡ by_class (count_by (has_order 0) (map (plan_of codec) pages)) (count_by (has_order 1) (map (plan_of codec) pages))
-    (count_by (has_order 2) (map (plan_of codec) pages)) (count_by (has_order 3) (map (plan_of codec) pages))
-classes_sum codec [] = refl
-classes_sum codec (page ∷ pages) =
-    let p = plan_of codec page in
-    let plans = map (plan_of codec) pages in
-    let first = block_class codec page p (IsPlan-plan_of codec page) in
-    let rest = classes_sum codec pages in
-    omega (
-      arith,
-      first,
-      rest,
-      sum_by-cons block_bytes p plans,
-      sum_by-cons (one_if (has_order 0)) p plans,
-      sum_by-cons (one_if (has_order 1)) p plans,
-      sum_by-cons (one_if (has_order 2)) p plans,
-      sum_by-cons (one_if (has_order 3)) p plans,
-    )
 
 -- the totals
 pub totals_are : (codec : Codec) (lines : List (List ℕ)) (ds : List Desc) (sizes : List (List (Option ℕ))) → length ds ≡ length (pages_of lines) → length sizes ≡ length (pages_of lines)

@@ -1,3 +1,4 @@
+pub mod CleanLemmas
 pub mod EntryLemmas
 pub mod FirstLemmas
 pub mod FlushLemmas

@@ -1,5 +1,5 @@
 -- The accesses of a trace, each like the load or the store of its width.
-use Rattle.std.specs.Prelude.{◌≡◌, ◌<◌, ◌^◌, ◌%◌, ◌-◌, ◌==◌, ◌⊎◌, ℕ, if◌then◌else◌, List, [], Option, Some, None, Result, Ok, Err}
+use Rattle.std.specs.Prelude.{◌≡◌, ◌%◌, ◌-◌, ◌==◌, ◌⊎◌, ℕ, if◌then◌else◌, List, [], Option, Some, None, Result, Ok, Err}
 use Rattle.hier_types.specs.Span.{Has, Span, first}
 use Rattle.hier_types.specs.declared.access.Access.{Access}
 use Rattle.hier_types.specs.declared.access.Access.TheVariants.{Load, Store}

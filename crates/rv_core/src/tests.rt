@@ -1,6 +1,6 @@
 use super::*;
 use crate::alu::{is_branch_taken, shifted, with_immediate, with_register};
-use hier_types::{Geometry, LineNo, NoSpace, Port};
+use hier_types::{Access, Geometry, LineNo, NoSpace, Port};
 use rv_decode::{BranchOp, ImmOp, RegOp, ShiftOp};
 
 /// One page of memory, which holds whatever line is touched.
@@ -10,7 +10,7 @@ struct PagePort {
     geometry: Geometry,
     held: Option<u32>,
     ghost sized: { length bytes ≡ 4096 },
-    ghost one: { geometry.pages ≡ 1 },
+    ghost span_is: { geometry ≡ record { base = 16; pages = 1 } },
 }
 
 ghost use Rattle.std.specs.Prelude.{◌≡◌, length};
@@ -460,5 +460,27 @@ fn exceptions(rt: HostRuntime) {
         assert_eq!(rt; step(&mut regs, &mut port), Err(trap));
         assert_eq!(rt; regs.pc, pc);
         assert_eq!(rt; regs.x, [0; 32]);
+    }
+}
+
+/// Each row has the address and the width, the value that is stored if it is a store, and the answer.
+#[test]
+fn accesses_of_each_width(rt: HostRuntime) {
+    let mut port = page_of(&[]);
+    for (at, width, stored, answer) in [
+        (0x1_0040, 4, Some(0x8283_8485), 0),
+        (0x1_0040, 4, None, 0x8283_8485),
+        (0x1_0040, 2, None, 0x8485),
+        (0x1_0043, 1, None, 0x82),
+        (0x1_0042, 2, Some(0xffff_0102), 0),
+        (0x1_0040, 4, None, 0x0102_8485),
+        (0x1_0041, 1, Some(0xffff_ff03), 0),
+        (0x1_0040, 4, None, 0x0102_0385),
+    ] {
+        let asked = match stored {
+            Some(value) => Access::Store { at, width, value },
+            None => Access::Load { at, width },
+        };
+        assert_eq!(rt; access(&mut port, &asked), Ok(answer), "{asked:?}");
     }
 }

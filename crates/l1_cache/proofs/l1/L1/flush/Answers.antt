@@ -1,6 +1,7 @@
 use Rattle.std.proofs.Common.{◌≡◌, Some, None, Ok, Err, refl, sym, ◌∙◌, arith}
 use Rattle.hier_types.proofs.CallLemmas.{Makes-none, Makes-write, Makes-write_then}
 use Rattle.recency.specs.Steps.{next_dirty}
+use Rattle.recency.proofs.CleanLemmas.{overlay_clean}
 use Rattle.recency.proofs.FlushLemmas.{back_falls, next_kept, next_before_clean}
 use Rattle.l1_cache.proofs.l1.L1.flush.Goals as goal
 
@@ -38,3 +39,7 @@ pub returns-clause-did : goal.returns-clause-did
 returns-clause-did g c =
     let next : next_dirty c.loop-entry.self.sets ≡ None = rw (← c.self.view_is) (sym c.next_dirty.ensures ∙ c.in_default.is) in
     c.loop-entry.invariant.on _ _ _ (Makes-none (next, refl, refl))
+
+pub returns-clause-settled : goal.returns-clause-settled
+returns-clause-settled g c =
+    rw (← c.self.view_is) (sym (overlay_clean (g.B.Layer.content c.self.inside.below) c.self.inside.sets c.self.invariant.sound (sym c.next_dirty.ensures ∙ c.in_default.is)))
