@@ -1,4 +1,5 @@
 pub mod PlacedLemmas
 pub mod MemoryLemmas
 pub mod RunLemmas
+pub mod SettleLemmas
 pub mod WordLemmas

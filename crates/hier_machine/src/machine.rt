@@ -6,19 +6,24 @@ ghost use Rattle.sys_shim.specs.Streams.{FaultsStay, stream, streams};
 ghost use Rattle.hier_machine.specs.Beats.{Beats, HartBeats};
 ghost use Rattle.hier_machine.specs.Memory.{bytes_of};
 ghost use Rattle.hier_machine.specs.Placed.{IsOpenFault};
+ghost use Rattle.hier_machine.specs.Reports.{Reports, counts_of};
 ghost use Rattle.hier_machine.specs.Runs.{Runs};
+ghost use Rattle.hier_machine.specs.Settles.{SettlesMachine};
 ghost use Rattle.hier_machine.specs.Spaces.{AreFreeCounts, IsSpaceEnd};
 ghost use Rattle.hier_machine.specs.Start.{Starts, StartsEmpty, start_memory};
+ghost use Rattle.run_report.specs.ReportLines.{HasBlocksIfDone};
 
 use crate::ends::OpenFault;
-use crate::errands::place_under;
+use crate::errands::{FlushSecond, place_under};
 use crate::page_view::view_page;
 use elf_image::Image;
-use hier_types::{Beat, BeatWord, Layer, NoMemory, NoSpace, PageNo, Port, Settings, Sink, Source};
+use hier_types::{
+    Beat, BeatWord, Layer, NoMemory, NoSpace, PageCounts, PageNo, Port, Settings, Sink, Source,
+};
 use l1_cache::L1;
 use l2_cache::L2;
 use page_store::Pages;
-use run_report::End;
+use run_report::{Counts, End, Report, Settled};
 use rv_core::Regs;
 use rv_guest::{Guest, MachineEnd};
 use std::alloc::Global;

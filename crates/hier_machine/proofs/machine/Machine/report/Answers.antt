@@ -1,0 +1,29 @@
+use Rattle.std.proofs.Common.{◌≡◌, ◌∙◌, ap, refl}
+use Rattle.page_plan.specs.Sizes.{sizes_of_memory}
+use Rattle.page_plan.proofs.TotalLemmas.{blocks_of_memory}
+use Rattle.page_store.specs.Store.{Store}
+use Rattle.hier_types.specs.declared.counts.Totals.{Totals}
+use Rattle.hier_machine.specs.Memory.{store_of}
+use Rattle.hier_machine.proofs.SettleLemmas.{settled_done}
+use Rattle.hier_machine.proofs.machine.Machine.report.Goals as goal
+
+pub returns-in-Ok-clause-reports : goal.returns-in-Ok-clause-reports
+returns-in-Ok-clause-reports c =
+    let store : Store = store_of c.settle.new.self.memory in
+    let totals : c.totals.result ≡ sizes_of_memory store.codec store.lines =
+    c.totals.ensures ∙ ap (λ (s : Store). sizes_of_memory s.codec s.lines) c.pages.ensures in
+    record {
+      answer = c.settle.result;
+      settles = c.settle.ensures;
+      settled = settled_done c.args.self.now c.settle.new.self c.settle.result c.totals.result c.settle.ensures c.in-Ok.is totals;
+      end_is = refl;
+      retired = c.retired-retired.ensures;
+      counts = c.counts-counts.ensures;
+    }
+
+pub returns-in-Ok-clause-blocks : goal.returns-in-Ok-clause-blocks
+returns-in-Ok-clause-blocks c =
+    let store : Store = c.pages.result.now in
+    let same = blocks_of_memory store.codec store.lines in
+    let totals : c.totals.result ≡ sizes_of_memory store.codec store.lines = c.totals.ensures in
+    cc
