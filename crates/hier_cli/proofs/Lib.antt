@@ -1,2 +1,2 @@
+pub mod NoticeLemmas
 pub mod StreamLemmas
-pub mod EndLemmas
