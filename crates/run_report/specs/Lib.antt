@@ -1,3 +1,4 @@
 pub mod Json
 pub mod ReportLines
+pub mod TextLines
 pub mod Texts

@@ -1,10 +1,9 @@
 -- The lines of a report and of a survey.
-use Rattle.std.specs.Prelude.{◌≡◌, ◌≢◌, ℕ, ◌+◌, ◌*◌, ◌/◌, ◌<◌, ◌≤◌, List, [], ◌∷◌, ◌++◌, codes, decimal}
+use Rattle.std.specs.Prelude.{◌≡◌, ◌≢◌, ℕ, ◌+◌, ◌*◌, ◌/◌, List, [], ◌∷◌, ◌++◌, codes, decimal}
 use Rattle.hier_types.specs.Lines.{flatten}
 use Rattle.hier_types.specs.Span.{Span}
 use Rattle.hier_types.specs.declared.counts.Totals.{Totals}
 use Rattle.hier_types.specs.declared.faults.NoSpace.{NoSpace}
-use Rattle.run_report.specs.declared.end.End.{End}
 use Rattle.run_report.specs.declared.end.End.TheVariants.{NoteFault}
 use Rattle.run_report.specs.declared.report.Counts.{Counts}
 use Rattle.run_report.specs.declared.report.Report.{Report}

@@ -46,7 +46,8 @@ fn report_value(alloc: Global, report: &Report, geometry: &Geometry) -> Result<V
     Ok(Value::Object(members.map))
 }
 
-/// The members of an object that is being made.
+/// The members of an object that is being made. Each call puts the last line first, as the definitions do; the object
+/// has them by their keys.
 #[derive(Drop)]
 struct Members {
     alloc: Global,

@@ -1,9 +1,10 @@
 // Lines that are written one by one.
-ghost use Rattle.std.specs.Prelude.{◌++◌, map, OnOk, OnErr};
+ghost use Rattle.std.specs.Prelude.{◌++◌, OnOk, OnErr};
 ghost use Rattle.std.specs.Io.KnownBytes.{Appends};
 ghost use Rattle.hier_types.specs.Causes.{HasCause};
 ghost use Rattle.hier_types.specs.Lines.{flatten};
 ghost use Rattle.hier_types.specs.Outside.{AppendsFront};
+ghost use Rattle.run_report.specs.TextLines.{texts_of};
 
 use crate::text_line::TextLine;
 use hier_types::{Failed, Sink};
@@ -12,9 +13,9 @@ use hier_types::{Failed, Sink};
 /// lines stands there.
 pub(crate) fn write_lines<N: Sink>(lines: &[TextLine], note: &mut N) -> Result<(), Failed>
     ensures ok { OnOk result (Appends (N.written note.old) (N.written note.new)
-        (flatten (map (λ line. line.text.bytes) lines.now))) }
+        (flatten (texts_of lines.now))) }
     ensures err { OnErr result (AppendsFront (N.written note.old) (N.written note.new)
-        (flatten (map (λ line. line.text.bytes) lines.now))) }
+        (flatten (texts_of lines.now))) }
     ensures cause { HasCause (N.faults note.old) (N.faults note.new) result }
 {
     for line in lines {
@@ -26,11 +27,15 @@ pub(crate) fn write_lines<N: Sink>(lines: &[TextLine], note: &mut N) -> Result<(
 }
 
 /// Writes some lines, and then more, in the same way.
-pub(crate) fn write_both<N: Sink>(lines: &[TextLine], more: &[TextLine], note: &mut N) -> Result<(), Failed>
+pub(crate) fn write_both<N: Sink>(
+    lines: &[TextLine],
+    more: &[TextLine],
+    note: &mut N,
+) -> Result<(), Failed>
     ensures ok { OnOk result (Appends (N.written note.old) (N.written note.new)
-        (flatten (map (λ line. line.text.bytes) lines.now ++ map (λ line. line.text.bytes) more.now))) }
+        (flatten (texts_of lines.now ++ texts_of more.now))) }
     ensures err { OnErr result (AppendsFront (N.written note.old) (N.written note.new)
-        (flatten (map (λ line. line.text.bytes) lines.now ++ map (λ line. line.text.bytes) more.now))) }
+        (flatten (texts_of lines.now ++ texts_of more.now))) }
     ensures cause { HasCause (N.faults note.old) (N.faults note.new) result }
 {
     if let Err(failed) = write_lines(lines, note) {

@@ -1,11 +1,12 @@
 // The lines of a report.
-ghost use Rattle.std.specs.Prelude.{◌≡◌, ◌≢◌, ◌+◌, ◌≤◌, ◌++◌, map, OnOk, OnErr};
+ghost use Rattle.std.specs.Prelude.{◌≡◌, ◌≢◌, ◌+◌, ◌≤◌, ◌++◌, OnOk, OnErr};
 ghost use Rattle.std.specs.Io.KnownBytes.{Appends};
 ghost use Rattle.arrayvec.specs.ArrayString.{array_string_len};
 ghost use Rattle.hier_types.specs.Causes.{HasCause};
 ghost use Rattle.hier_types.specs.Outside.{AppendsFront};
 ghost use Rattle.run_report.specs.declared.end.End.TheVariants.{NoteFault};
 ghost use Rattle.run_report.specs.ReportLines as lines;
+ghost use Rattle.run_report.specs.TextLines.{texts_of};
 
 use crate::end::page_address;
 use crate::lines::{write_both, write_lines};
@@ -34,7 +35,7 @@ pub fn write_text<N: Sink>(report: &Report, geometry: &Geometry, note: &mut N) -
 /// The lines that stand in every report.
 fn run_lines(report: &Report, geometry: &Geometry) -> [TextLine; 9]
     requires { report.now.end ≢ NoteFault }
-    ensures { map (λ line. line.text.bytes) result ≡ lines.run_lines geometry.now report.now }
+    ensures { texts_of result ≡ lines.run_lines geometry.now report.now }
 {
     let l1 = &report.counts.l1;
     let l2 = &report.counts.l2;
@@ -70,6 +71,11 @@ pub(crate) fn put_settled(line: &mut TextLine, settled: &Settled, geometry: &Geo
 {
     match settled {
         Settled::Done(_) => line.word("done"),
-        Settled::Space(refusal) => put_refusal(line, "space ", page_address(*geometry, refusal.page), refusal.order),
+        Settled::Space(refusal) => put_refusal(
+            line,
+            "space ",
+            page_address(*geometry, refusal.page),
+            refusal.order,
+        ),
     }
 }

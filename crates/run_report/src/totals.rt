@@ -1,6 +1,7 @@
 // The lines of what the pages of a memory take.
-ghost use Rattle.std.specs.Prelude.{◌≡◌, ◌^◌, ◌<◌, map};
+ghost use Rattle.std.specs.Prelude.{◌≡◌, ◌^◌, ◌<◌};
 ghost use Rattle.run_report.specs.ReportLines as lines;
+ghost use Rattle.run_report.specs.TextLines.{texts_of};
 
 use crate::text_line::TextLine;
 use hier_types::{PAGE_BYTES, Totals};
@@ -8,7 +9,7 @@ use hier_types::{PAGE_BYTES, Totals};
 /// The lines of the classes, exceptions, encoded bytes, bytes of blocks and the ratio.
 pub(crate) fn totals_lines(totals: &Totals) -> [TextLine; 5]
     requires { lines.HasBlocks totals.now }
-    ensures { map (λ line. line.text.bytes) result ≡ lines.totals_lines totals.now }
+    ensures { texts_of result ≡ lines.totals_lines totals.now }
 {
     [
         TextLine::of_numbers("classes", &classes(totals)),
@@ -36,7 +37,10 @@ pub(crate) fn pages_with_block(totals: &Totals) -> u64
     ensures pages { result ≡ lines.pages_of totals.now }
     ensures fits { result < 2 ^ 34 }
 {
-    u64::from(totals.c512) + u64::from(totals.c1024) + u64::from(totals.c2048) + u64::from(totals.c4096)
+    u64::from(totals.c512)
+        + u64::from(totals.c1024)
+        + u64::from(totals.c2048)
+        + u64::from(totals.c4096)
 }
 
 /// 100 times the bytes of the pages that have a block by those of their blocks, rounded down; 0 where there are none.

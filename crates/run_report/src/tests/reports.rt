@@ -97,12 +97,12 @@ fn a_report_has_fourteen_lines(rt: HostRuntime) -> Result<(), Fail> {
 fn no_line_follows_a_call_that_failed(rt: HostRuntime) -> Result<(), Fail> {
     let alloc = rt.alloc();
     let mut text = Vec::new(alloc);
-    for (call, line) in (0u64..14).zip(&LINES) {
+    for call in 0..14u64 {
         let mut note = note(alloc, vec![in alloc; (call, 0), (call + 1, 0)]?)?;
         assert_eq!(rt; write_text(&EXIT_THREE, &GEOMETRY, &mut note), Err(Failed));
         assert_eq!(rt; note.write(b"."), Err(Failed));
         assert_eq!(rt; note.bytes(), text.as_slice());
-        text.extend_from_slice(line.as_bytes())?;
+        text.extend_from_slice(LINES[call as usize].as_bytes())?;
     }
     Ok(())
 }
@@ -112,19 +112,30 @@ fn a_refused_settling_has_no_totals(rt: HostRuntime) -> Result<(), Fail> {
     let alloc = rt.alloc();
     let mut note = note(alloc, Vec::new(alloc))?;
     assert_eq!(rt; write_text(&REFUSED, &GEOMETRY, &mut note), Ok(()));
-    assert!(rt; note.bytes().ends_with(b"\ntidy 0\nsettle space 00018000 0\n"));
+    assert!(rt;
+        note.bytes()
+            .ends_with(b"\ntidy 0\nsettle space 00018000 0\n")
+    );
     Ok(())
 }
 
 #[test]
 fn a_report_is_one_object(rt: HostRuntime) -> Result<(), Fail> {
     let alloc = rt.alloc();
-    let done = "{\"blocks\":512,\"classes\":[1,0,0,0],\"encoded\":190,\"end\":\"exit 3\",\"exceptions\":1,\
+    let done =
+        "{\"blocks\":512,\"classes\":[1,0,0,0],\"encoded\":190,\"end\":\"exit 3\",\"exceptions\":1,\
         \"l1\":[2,1,0],\"l2\":[1,0,0,0],\"meta\":[0,1],\"pages\":[1,0],\"ratio\":800,\"retired\":3,\
         \"settle\":\"done\",\"tidy\":0,\"turns\":[0,0]}\n";
-    let refused = "{\"end\":\"exit 3\",\"l1\":[2,1,0],\"l2\":[1,0,0,0],\"meta\":[0,1],\"pages\":[1,0],\
+    let refused =
+        "{\"end\":\"exit 3\",\"l1\":[2,1,0],\"l2\":[1,0,0,0],\"meta\":[0,1],\"pages\":[1,0],\
         \"retired\":3,\"settle\":\"space 00018000 0\",\"tidy\":0,\"turns\":[0,0]}\n";
-    assert_eq!(rt; to_json(alloc, &EXIT_THREE, &GEOMETRY)?.as_slice(), done.as_bytes());
-    assert_eq!(rt; to_json(alloc, &REFUSED, &GEOMETRY)?.as_slice(), refused.as_bytes());
+    assert_eq!(rt;
+        to_json(alloc, &EXIT_THREE, &GEOMETRY)?.as_slice(),
+        done.as_bytes()
+    );
+    assert_eq!(rt;
+        to_json(alloc, &REFUSED, &GEOMETRY)?.as_slice(),
+        refused.as_bytes()
+    );
     Ok(())
 }

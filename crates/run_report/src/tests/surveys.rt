@@ -17,7 +17,8 @@ fn a_survey_has_seven_lines(rt: HostRuntime) -> Result<(), Fail> {
     };
     let mut out = note(alloc, Vec::new(alloc))?;
     assert_eq!(rt; write_survey(&totals, &mut out), Ok(()));
-    let text = "pages 2\nzero 1\nclasses 1 0 0 0\nexceptions 3\nencoded 314\nblocks 512\nratio 800\n";
+    let text =
+        "pages 2\nzero 1\nclasses 1 0 0 0\nexceptions 3\nencoded 314\nblocks 512\nratio 800\n";
     assert_eq!(rt; out.bytes(), text.as_bytes());
     Ok(())
 }
