@@ -3,3 +3,4 @@ pub mod MemoryLemmas
 pub mod RunLemmas
 pub mod SettleLemmas
 pub mod WordLemmas
+pub mod TurnLemmas

@@ -14,6 +14,7 @@ use Rattle.rv_guest.proofs.RunLemmas.{Meets, over}
 use Rattle.hier_machine.specs.Beats.{Beats, HartBeats, Stays}
 use Rattle.hier_machine.specs.Runs.{IsBeat, LastBeat, Passed, Runs}
 use Rattle.hier_machine.specs.State.{State}
+use Rattle.hier_machine.proofs.TurnLemmas.{passed_turns}
 
 -- From its start a run has come to the state now, by so many beats.
 pub record RunsSoFar (start now : State) (count : ℕ) (streams : Streams) : Type 0 where
@@ -78,6 +79,7 @@ pub runs_end : (beat : Beat) (start a b : State) (count : ℕ) (end : MachineEnd
 runs_end Hart start a b count end first second so meets lt is h = record {
   runs = lemmas.runs_end start.memory.span start.budget start.guest a.guest b.guest end first second so.runs meets (below start a so.stays lt) (subst (λ (s : Span). DoesBeat s a.guest (Some end) b.guest second) so.stays.span h.does);
   beats = record { count = count; last = a; passed = so.passed; ends = last_beat start count a end b Hart second is h h };
+  turns = record { mover = h.turns.mover ∙ (passed_turns start count a so.passed).mover; cleaner = h.turns.cleaner ∙ (passed_turns start count a so.passed).cleaner };
   stays = stays_join start a b so.stays h.stays;
   over = h.ended;
 }
@@ -93,6 +95,7 @@ pub runs_budget : (start a : State) (count : ℕ) (s : Streams) → RunsSoFar st
 runs_budget start a count s so used = record {
   runs = lemmas.runs_budget start.memory.span start.budget start.guest a.guest s so.runs (subst (λ n. n ≤ a.guest.retired) so.stays.budget used);
   beats = record { count = count; last = a; passed = so.passed; ends = refl };
+  turns = record { mover = (passed_turns start count a so.passed).mover; cleaner = (passed_turns start count a so.passed).cleaner };
   stays = record { span = so.stays.span; budget = so.stays.budget; beats = so.stays.beats };
   over = refl;
 }

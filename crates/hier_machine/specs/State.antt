@@ -4,7 +4,8 @@ use Rattle.hier_types.specs.declared.beats.Beat.{Beat}
 use Rattle.rv_guest.specs.State as guest
 use Rattle.hier_machine.specs.Memory.{Memory}
 
--- the memory with both cache levels; the guest's state, with the bytes that the memory has; how many instructions may retire; the word of beats; how often the mover and the cleaner had a turn; and whether the run has ended
+-- the memory with both cache levels; the guest's state, with the bytes that the memory has; how many instructions may
+-- retire; the word of beats; how often the mover and the cleaner had a turn; and whether the run has ended
 pub record State : Type 0 where
   pub memory : Memory
   pub guest : guest.State

@@ -71,12 +71,32 @@ fn a_machine_begins_with_its_image(rt: HostRuntime) -> Result<(), Fail> {
 }
 
 #[test]
+fn an_empty_machine_has_zeros(rt: HostRuntime) -> Result<(), Fail> {
+    let settings = sized(4, 3, &[Beat::Hart], 9)?;
+    let machine = Machine::open_empty(rt.alloc(), &settings)
+        .ok()
+        .ok_or("no machine")?;
+    assert_eq!(rt; machine.retired(), 0);
+    assert!(rt; !machine.ended());
+    assert_eq!(rt; machine.pages().free(3), 3);
+    let mut page = [7; 4096];
+    machine.view_page(PageNo(3), &mut page);
+    assert_eq!(rt; page, [0; 4096]);
+    Ok(())
+}
+
+#[test]
 fn beats_of_the_hart_alone_retire(rt: HostRuntime) -> Result<(), Fail> {
     let alloc = rt.alloc();
     let settings = sized(4, 4, &[Beat::Hart], 9)?;
     let mut machine = counting(alloc, &settings)?;
     let mut input = BytesSource::new(Vec::new(alloc), Vec::new(alloc));
     assert_eq!(rt; machine.beat(Beat::Mover, &mut input, &mut NullSink), None);
+    assert_eq!(rt; machine.retired(), 0);
+    assert_eq!(rt;
+        machine.beat(Beat::Cleaner, &mut input, &mut NullSink),
+        None
+    );
     assert_eq!(rt; machine.retired(), 0);
     assert_eq!(rt; machine.beat(Beat::Hart, &mut input, &mut NullSink), None);
     assert_eq!(rt; machine.retired(), 1);
