@@ -12,6 +12,16 @@ const COUNTING: [u8; 92] = [
     0x12, 0x00, 0x6f, 0xf0, 0xdf, 0xff,
 ];
 
+/// A plain program at 00010000 that counts in x5 for ever, and stores each number to two lines of the next page:
+/// `lui x6, 17`, `addi x5, x5, 1`, `sw x5, 0(x6)`, `sw x5, 64(x6)` and `jal x0, -12`.
+const STORING: [u8; 104] = [
+    0x7f, b'E', b'L', b'F', 1, 1, 1, 0, 0, 0, 0, 0, 0, 0, 0, 0, 2, 0, 243, 0, 1, 0, 0, 0, 0, 0, 1,
+    0, 52, 0, 0, 0, 0, 0, 0, 0, 0, 0, 0, 0, 52, 0, 32, 0, 1, 0, 0, 0, 0, 0, 0, 0, 1, 0, 0, 0, 84,
+    0, 0, 0, 0, 0, 1, 0, 0, 0, 0, 0, 20, 0, 0, 0, 20, 0, 0, 0, 5, 0, 0, 0, 4, 0, 0, 0, 0x37, 0x13,
+    0x01, 0x00, 0x93, 0x82, 0x12, 0x00, 0x23, 0x20, 0x53, 0x00, 0x23, 0x20, 0x53, 0x04, 0x6f, 0xf0,
+    0x5f, 0xff,
+];
+
 ghost use Rattle.std.specs.Prelude.{◌≡◌, ◌≤◌, ◌^◌, false, IfOk};
 ghost use Rattle.hier_types.specs.Settings.{AreWithinRules};
 
@@ -35,12 +45,12 @@ fn sized(pages: u32, frames: u32, beats: &[Beat], budget: u64) -> Result<Setting
 }
 
 /// The program, opened with these settings.
-fn counting(alloc: Global, settings: &Settings) -> Result<Machine, Fail>
+fn opened(alloc: Global, program: &[u8], settings: &Settings) -> Result<Machine, Fail>
     requires { AreWithinRules settings.now }
     ensures { IfOk result (λ machine. (machine.ended ≡ false) × (machine.guest.retired ≡ 0) × (machine.memory.span.pages ≡ settings.now.geometry.pages)) }
 {
     let mut file = Vec::new(alloc);
-    file.extend_from_slice(&COUNTING)?;
+    file.extend_from_slice(program)?;
     let image = read_image(alloc, file, settings.geometry)
         .ok()
         .ok_or("no program")?;
@@ -49,6 +59,14 @@ fn counting(alloc: Global, settings: &Settings) -> Result<Machine, Fail>
             .ok()
             .ok_or("no machine")?,
     )
+}
+
+/// The program that counts, opened with these settings.
+fn counting(alloc: Global, settings: &Settings) -> Result<Machine, Fail>
+    requires { AreWithinRules settings.now }
+    ensures { IfOk result (λ machine. (machine.ended ≡ false) × (machine.guest.retired ≡ 0) × (machine.memory.span.pages ≡ settings.now.geometry.pages)) }
+{
+    opened(alloc, &COUNTING, settings)
 }
 
 #[test]
@@ -150,5 +168,22 @@ fn images_without_room_are_refused(rt: HostRuntime) -> Result<(), Fail> {
         Machine::open(alloc, &settings, &image).err(),
         Some(OpenFault::NoRoom(refusal))
     );
+    Ok(())
+}
+
+#[test]
+fn what_was_stored_settles_and_stays(rt: HostRuntime) -> Result<(), Fail> {
+    let alloc = rt.alloc();
+    let settings = sized(4, 4, &[Beat::Hart], 11)?;
+    let mut machine = opened(alloc, &STORING, &settings)?;
+    let mut input = BytesSource::new(Vec::new(alloc), Vec::new(alloc));
+    assert_eq!(rt; machine.run(&mut input, &mut NullSink), MachineEnd::Budget);
+    let mut before = [7; 4096];
+    machine.view_page(PageNo(1), &mut before);
+    assert_eq!(rt; (before[0], before[64]), (3, 2));
+    assert!(rt; machine.settle().is_ok());
+    let mut after = [7; 4096];
+    machine.view_page(PageNo(1), &mut after);
+    assert_eq!(rt; after, before);
     Ok(())
 }

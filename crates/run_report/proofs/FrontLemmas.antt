@@ -9,14 +9,14 @@ use Rattle.hier_types.specs.Lines.{flatten}
 use Rattle.hier_types.specs.Outside.{AppendsFront}
 
 -- a front of the first text is one of both
-front_of_first : (before after : Option (List ℕ)) (first second : List ℕ) → AppendsFront before after first → AppendsFront before after (first ++ second)
+pub front_of_first : (before after : Option (List ℕ)) (first second : List ℕ) → AppendsFront before after first → AppendsFront before after (first ++ second)
 front_of_first before after first second front =
     let count = min front.0 (length first) in
     let same : take count (first ++ second) ≡ take front.0 first = take-append-le count first second (omega arith) ∙ take_min front.0 first in
     (count, subst (λ bytes. Appends before after bytes) (sym same) front.1)
 
 -- the first text and a front of the second are a front of both
-front_of_both : (before mid after : Option (List ℕ)) (first second : List ℕ) → Appends before mid first → AppendsFront mid after second → AppendsFront before after (first ++ second)
+pub front_of_both : (before mid after : Option (List ℕ)) (first second : List ℕ) → Appends before mid first → AppendsFront mid after second → AppendsFront before after (first ++ second)
 front_of_both before mid after first second whole front =
     (length first + front.0, subst (λ bytes. Appends before after bytes) (sym (take-append-add first second front.0)) (Appends-trans before mid after first (take front.0 second) whole front.1))
 
