@@ -1,2 +1,4 @@
+pub mod ImageLemmas
 pub mod NoticeLemmas
+pub mod RunLemmas
 pub mod StreamLemmas

@@ -1,5 +1,6 @@
 // The memory that a run left, printed page by page.
-ghost use Rattle.std.specs.Prelude.{◌≡◌, ◌+◌, ◌*◌, ◌<◌, ◌≤◌, OnErr, OnOk};
+ghost use Rattle.std.specs.Prelude.{◌≡◌, ◌<◌, ◌++◌, OnErr, OnOk};
+ghost use Rattle.std.specs.Int.{w32, to_le_bytes};
 ghost use Rattle.std.specs.Io.KnownBytes.{Appends};
 ghost use Rattle.hier_types.specs.Causes.{HasCause};
 ghost use Rattle.hier_types.specs.Outside.{AppendsFront};
@@ -58,7 +59,7 @@ fn print_pages<O: Sink>(machine: &Machine, geometry: Geometry, out: &mut O) -> R
     Ok(())
 }
 
-/// Prints a page, unless it is zero: its address in one call, and its bytes in another.
+/// Prints a page, unless it is zero.
 fn print_page<O: Sink>(bytes: &[u8; 4096], geometry: Geometry, number: u32, out: &mut O) -> Result<(), Failed>
     requires { number < geometry.pages }
     ensures ok { OnOk result (Appends (O.written out.old) (O.written out.new) (text_of_page geometry number bytes.now)) }
@@ -68,7 +69,15 @@ fn print_page<O: Sink>(bytes: &[u8; 4096], geometry: Geometry, number: u32, out:
     if *bytes == [0; 4096] {
         return Ok(());
     }
-    let at = geometry.first() + number * PAGE_BYTES;
+    print_at(geometry.first() + number * PAGE_BYTES, bytes, out)
+}
+
+/// Prints a page behind its address, the lowest byte first: the address in one call, and its bytes in another.
+fn print_at<O: Sink>(at: u32, bytes: &[u8; 4096], out: &mut O) -> Result<(), Failed>
+    ensures ok { OnOk result (Appends (O.written out.old) (O.written out.new) (to_le_bytes w32 at ++ bytes.now)) }
+    ensures err { OnErr result (AppendsFront (O.written out.old) (O.written out.new) (to_le_bytes w32 at ++ bytes.now)) }
+    ensures cause { HasCause (O.faults out.old) (O.faults out.new) result }
+{
     if let Err(failed) = out.write(&at.to_le_bytes()) {
         return Err(failed);
     }
