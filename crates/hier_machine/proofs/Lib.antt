@@ -1,6 +1,9 @@
-pub mod PlacedLemmas
+pub mod KeepingLemmas
 pub mod MemoryLemmas
+pub mod PlacedLemmas
 pub mod RunLemmas
 pub mod SettleLemmas
+pub mod StackLemmas
 pub mod WordLemmas
 pub mod TurnLemmas
+pub mod WordLemmas

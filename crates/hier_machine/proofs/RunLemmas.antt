@@ -1,5 +1,5 @@
 -- A run, beat by beat.
-use Rattle.std.proofs.Common.{◌≡◌, ◌<◌, ◌≤◌, ◌+◌, ◌%◌, ℕ, suc, true, false, Some, None, refl, ◌∙◌, ap, subst, sym, arith}
+use Rattle.std.proofs.Common.{◌≡◌, ◌<◌, ◌≤◌, ◌+◌, ◌%◌, ℕ, suc, true, false, List, length, slice_get, Some, None, refl, ◌∙◌, ap, subst, sym, arith}
 use Rattle.std.proofs.Math.Nat.{suc-mod}
 use Rattle.hier_types.specs.declared.beats.Beat.{Beat}
 use Rattle.hier_types.specs.declared.beats.Beat.TheVariants.{Hart, Mover, Cleaner}
@@ -105,6 +105,12 @@ pub next_place : (place count size : ℕ) → place ≡ count % size → (place 
 next_place place count size e =
     let one : place + 1 ≡ suc place = omega arith in
     ap (λ n. n % size) one ∙ ap (λ n. suc n % size) e ∙ sym (suc-mod count size)
+
+-- the beat at the place is the next one of the word
+pub beat_is : {start s now : State} {place size : ℕ} {beat : Beat} (count : ℕ) → Stays start now → s ≡ now → place ≡ count % size → size ≡ length start.beats → slice_get s.beats place ≡ Some beat → IsBeat start.beats count beat
+beat_is {start} {s} {now} {place} {size} count stays same at len here =
+    ap (λ n. slice_get start.beats n) (sym (at ∙ ap (λ n. count % n) len))
+    ∙ ap (λ (l : List Beat). slice_get l place) (sym (ap (λ (t : State). t.beats) same ∙ stays.beats)) ∙ here
 
 -- the test of the budget, by the machine's state
 pub before_budget : {s t : State} {budget : ℕ} → s ≡ t → budget ≡ t.budget → s.guest.retired < budget → t.guest.retired < t.budget

@@ -1,4 +1,7 @@
+pub mod Accesses
 pub mod Beats
+pub mod Contents
+pub mod Levels
 pub mod Lines
 pub mod Memory
 pub mod Placed
@@ -6,6 +9,7 @@ pub mod Reports
 pub mod Runs
 pub mod Settles
 pub mod Spaces
+pub mod StackRun
 pub mod Start
 pub mod State
 pub mod Words

@@ -1,24 +1,19 @@
 -- The memory under the guest: two cache levels over a memory of pages.
-use Rattle.std.specs.Prelude.{◌≡◌, ◌-◌, ◌%◌, ℕ, List, Result, is_some}
+use Rattle.std.specs.Prelude.{ℕ, List, Result}
 use Rattle.hier_types.specs.declared.faults.NoSpace.{NoSpace}
-use Rattle.hier_types.specs.Calls.{Answer, Makes}
+use Rattle.hier_types.specs.Calls.{Answer}
 use Rattle.hier_types.specs.Lines.{flatten}
-use Rattle.hier_types.specs.Span.{first, line_at}
-use Rattle.line_codec.specs.Slots.{size_under}
-use Rattle.recency.specs.Kept.{poked}
-use Rattle.recency.specs.Levels.{kept_of, set_of, with_set}
 use Rattle.l1_cache.specs.FirstLevel as one
-use Rattle.l1_cache.specs.Touches.{Touches}
 use Rattle.l2_cache.specs.SecondLevel as two
-use Rattle.l2_cache.specs.Turns.{ReadsSecond, WritesSecond, read_counted, write_counted}
 use Rattle.page_store.specs.Calls.{StoreRead, StoreWrite}
 use Rattle.page_store.specs.Store.{Store}
+use Rattle.hier_machine.specs.Levels.{Levels, PokeLevels, SecondRead, SecondWrite, TouchLevels}
 
 abbrev pub Below : Type 0
 Below = two.Seen Store
 
 abbrev pub Memory : Type 0
-Memory = one.Seen Below
+Memory = Levels Store
 
 abbrev pub store_of : Memory → Store
 store_of m = m.below.below
@@ -35,19 +30,15 @@ lines_of m = one.lines_of lines_below m
 abbrev pub bytes_of : Memory → List ℕ
 bytes_of m = flatten (lines_of m)
 
--- a read and a write of the second level, by its lists, its counts and what it does to the store
+-- reads and writes of the second level, touches and pokes of the first, over the memory of pages
 abbrev pub BelowRead : Below → ℕ → Result (List ℕ) NoSpace → Below → Type 0
-BelowRead s line answer t = (t.codec ≡ s.codec) × (t.cursor ≡ s.cursor) × (t.counts ≡ read_counted (is_some (kept_of s.sets line)) answer s.counts)
-    × Makes StoreRead StoreWrite s.below (ReadsSecond (size_under s.codec) s.sets line answer t.sets) t.below
+BelowRead s line answer t = SecondRead StoreRead StoreWrite s line answer t
 
 abbrev pub BelowWrite : Below → ℕ → List ℕ → Answer → Below → Type 0
-BelowWrite s line bytes answer t = (t.codec ≡ s.codec) × (t.cursor ≡ s.cursor) × (t.counts ≡ write_counted (is_some (kept_of s.sets line)) answer s.counts)
-    × Makes StoreRead StoreWrite s.below (WritesSecond (size_under s.codec) s.sets line bytes answer t.sets) t.below
+BelowWrite s line bytes answer t = SecondWrite StoreRead StoreWrite s line bytes answer t
 
--- a touch of the first level, by its lists, its counts and what it does to the second
 abbrev pub TouchMemory : Memory → ℕ → Answer → Memory → Type 0
-TouchMemory s line result t = Makes BelowRead BelowWrite s.below (Touches s.sets s.counts line result t.sets t.counts) t.below
+TouchMemory s line result t = TouchLevels StoreRead StoreWrite s line result t
 
--- a poke of a byte, whose line is then dirty
 abbrev pub PokeMemory : Memory → ℕ → ℕ → Memory → Type 0
-PokeMemory s at byte t = (t.below ≡ s.below) × (t.counts ≡ s.counts) × (t.sets ≡ with_set s.sets (line_at s.span at) (poked (set_of s.sets (line_at s.span at)).lines ((at - first s.span) % 64) byte))
+PokeMemory s at byte t = PokeLevels s at byte t

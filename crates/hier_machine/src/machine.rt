@@ -3,13 +3,16 @@ ghost use Rattle.std.specs.Prelude.{◌≡◌, ◌*◌, ◌-◌, ◌^◌, ◌<�
 ghost use Rattle.hier_types.specs.Settings.{AreWithinRules};
 ghost use Rattle.rv_guest.specs.State.{start_state};
 ghost use Rattle.sys_shim.specs.Streams.{FaultsStay, stream, streams};
+ghost use Rattle.rv_core.specs.Accesses.{IsAccess};
+ghost use Rattle.hier_machine.specs.Accesses.{AccessBeats};
 ghost use Rattle.hier_machine.specs.Beats.{Beats, HartBeats};
-ghost use Rattle.hier_machine.specs.Memory.{bytes_of};
+ghost use Rattle.hier_machine.specs.Memory.{bytes_of, store_of};
 ghost use Rattle.hier_machine.specs.Placed.{IsOpenFault};
 ghost use Rattle.hier_machine.specs.Reports.{Reports, counts_of};
 ghost use Rattle.hier_machine.specs.Runs.{Runs};
 ghost use Rattle.hier_machine.specs.Settles.{SettlesMachine};
 ghost use Rattle.hier_machine.specs.Spaces.{AreFreeCounts, IsSpaceEnd};
+ghost use Rattle.hier_machine.specs.StackRun.{StackAccess, StackBeats, StackHart, StackRun, stack_of};
 ghost use Rattle.hier_machine.specs.Start.{Starts, StartsEmpty, start_memory};
 ghost use Rattle.run_report.specs.ReportLines.{HasBlocksIfDone};
 
@@ -18,13 +21,14 @@ use crate::errands::{FlushSecond, place_under};
 use crate::page_view::view_page;
 use elf_image::Image;
 use hier_types::{
-    Beat, BeatWord, Layer, NoMemory, NoSpace, PageCounts, PageNo, Port, Settings, Sink, Source,
+    Access, Beat, BeatWord, Layer, NoMemory, NoSpace, PageCounts, PageNo, Port, Settings, Sink,
+    Source,
 };
 use l1_cache::L1;
 use l2_cache::L2;
 use page_store::Pages;
 use run_report::{Counts, End, Report, Settled};
-use rv_core::Regs;
+use rv_core::{Regs, access};
 use rv_guest::{Guest, MachineEnd};
 use std::alloc::Global;
 use std::marker::Model;
@@ -185,6 +189,7 @@ impl Machine {
         requires running { self.old.ended ≡ false }
         requires room { self.old.guest.retired < 2 ^ 64 - 1 }
         ensures beats { Beats beat self.old result self.new (streams (stream (I.left input.old) (I.left input.new) (I.faults input.old) (I.faults input.new)) (stream (O.written out.old) (O.written out.new) (O.faults out.old) (O.faults out.new))) }
+        ensures stack { StackBeats (store_of self.old.memory).codec (length (store_of self.old.memory).used) beat (stack_of self.old) result (stack_of self.new) (streams (stream (I.left input.old) (I.left input.new) (I.faults input.old) (I.faults input.new)) (stream (O.written out.old) (O.written out.new) (O.faults out.old) (O.faults out.new))) }
         ensures faults { FaultsStay (streams (stream (I.left input.old) (I.left input.new) (I.faults input.old) (I.faults input.new)) (stream (O.written out.old) (O.written out.new) (O.faults out.old) (O.faults out.new))) }
     {
         match beat {
@@ -198,6 +203,19 @@ impl Machine {
                 None
             }
         }
+    }
+
+    /// The hart's beat of a trace: one access, which gives the value that it loads, or 0 for a store. It counts like an
+    /// instruction, and touches one line.
+    pub fn beat_access(&mut self, asked: &Access) -> Result<u32, NoSpace>
+        requires access { IsAccess self.old.memory.span asked.now }
+        requires room { self.old.guest.retired < 2 ^ 64 - 1 }
+        ensures beats { AccessBeats self.old asked.now result self.new }
+        ensures stack { StackAccess (store_of self.old.memory).codec (length (store_of self.old.memory).used) (stack_of self.old) asked.now result (stack_of self.new) }
+    {
+        let value = access(&mut self.memory, asked)?;
+        self.guest.retired += 1;
+        Ok(value)
     }
 
     /// Writes every changed line down to the pages: those of the first level to the second, and then those of the second
@@ -239,6 +257,7 @@ impl Machine {
         requires running { self.old.ended ≡ false }
         requires within { self.old.guest.retired ≤ self.old.budget }
         ensures runs { Runs self.old result self.new (streams (stream (I.left input.old) (I.left input.new) (I.faults input.old) (I.faults input.new)) (stream (O.written out.old) (O.written out.new) (O.faults out.old) (O.faults out.new))) }
+        ensures stack { StackRun (store_of self.old.memory).codec (length (store_of self.old.memory).used) self.old.beats (stack_of self.old) result (stack_of self.new) }
         ensures faults { FaultsStay (streams (stream (I.left input.old) (I.left input.new) (I.faults input.old) (I.faults input.new)) (stream (O.written out.old) (O.written out.new) (O.faults out.old) (O.faults out.new))) }
     {
         let budget = self.budget;
@@ -260,6 +279,7 @@ impl Machine {
         requires running { self.old.ended ≡ false }
         requires room { self.old.guest.retired < 2 ^ 64 - 1 }
         ensures beats { HartBeats self.old result self.new (streams (stream (I.left input.old) (I.left input.new) (I.faults input.old) (I.faults input.new)) (stream (O.written out.old) (O.written out.new) (O.faults out.old) (O.faults out.new))) }
+        ensures stack { StackHart (store_of self.old.memory).codec (length (store_of self.old.memory).used) (stack_of self.old) result (stack_of self.new) (streams (stream (I.left input.old) (I.left input.new) (I.faults input.old) (I.faults input.new)) (stream (O.written out.old) (O.written out.new) (O.faults out.old) (O.faults out.new))) }
         ensures faults { FaultsStay (streams (stream (I.left input.old) (I.left input.new) (I.faults input.old) (I.faults input.new)) (stream (O.written out.old) (O.written out.new) (O.faults out.old) (O.faults out.new))) }
     {
         let end = self.guest.beat(&mut self.memory, input, out);

@@ -1,6 +1,8 @@
 use super::*;
 use elf_image::read_image;
-use hier_types::{Beat, BeatWord, BytesSource, Geometry, NoSpace, NullSink, PageNo, Settings};
+use hier_types::{
+    Access, Beat, BeatWord, BytesSource, Geometry, NoSpace, NullSink, PageNo, Settings,
+};
 use std::alloc::Global;
 use std::test::Fail;
 
@@ -22,8 +24,9 @@ const STORING: [u8; 104] = [
     0x5f, 0xff,
 ];
 
-ghost use Rattle.std.specs.Prelude.{◌≡◌, ◌≤◌, ◌^◌, false, IfOk};
+ghost use Rattle.std.specs.Prelude.{◌≡◌, ◌+◌, ◌<◌, ◌≤◌, ◌^◌, false, IfOk};
 ghost use Rattle.hier_types.specs.Settings.{AreWithinRules};
+ghost use Rattle.rv_core.specs.Accesses.{IsAccess};
 
 /// The default settings, but with these pages, frames, beats and budget.
 fn sized(pages: u32, frames: u32, beats: &[Beat], budget: u64) -> Result<Settings, Fail>
@@ -34,6 +37,7 @@ fn sized(pages: u32, frames: u32, beats: &[Beat], budget: u64) -> Result<Setting
     requires budget { budget ≤ 10 ^ 15 }
     ensures rules { IfOk result AreWithinRules }
     ensures pages { IfOk result (λ settings. settings.geometry.pages ≡ pages) }
+    ensures base { IfOk result (λ settings. settings.geometry.base ≡ 16) }
 {
     Ok(Settings {
         geometry: Geometry { base: 16, pages },
@@ -141,6 +145,42 @@ fn budgets_end_runs_and_words_change_none(rt: HostRuntime) -> Result<(), Fail> {
             assert_eq!(rt; machine.regs().x[5], count, "budget {budget}");
         }
     }
+    Ok(())
+}
+
+/// What an access gives, or nothing where it is refused.
+fn value_of(machine: &mut Machine, asked: &Access) -> Option<u32>
+    requires access { IsAccess machine.old.memory.span asked.now }
+    requires room { machine.old.guest.retired < 9 }
+    ensures span { machine.new.memory.span ≡ machine.old.memory.span }
+    ensures retired { machine.new.guest.retired ≤ machine.old.guest.retired + 1 }
+{
+    machine.beat_access(asked).ok()
+}
+
+#[test]
+fn accesses_over_zeros_are_counted(rt: HostRuntime) -> Result<(), Fail> {
+    let settings = sized(4, 4, &[Beat::Hart], 9)?;
+    let mut machine = Machine::open_empty(rt.alloc(), &settings)
+        .ok()
+        .ok_or("no machine")?;
+    let half = Access::Store {
+        at: 0x1_1006,
+        width: 2,
+        value: 0xffff_8283,
+    };
+    let word = Access::Load {
+        at: 0x1_1004,
+        width: 4,
+    };
+    let byte = Access::Load {
+        at: 0x1_1007,
+        width: 1,
+    };
+    assert_eq!(rt; value_of(&mut machine, &half), Some(0));
+    assert_eq!(rt; value_of(&mut machine, &word), Some(0x8283_0000));
+    assert_eq!(rt; value_of(&mut machine, &byte), Some(0x82));
+    assert_eq!(rt; machine.retired(), 3);
     Ok(())
 }
 

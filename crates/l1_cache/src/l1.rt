@@ -327,9 +327,9 @@ impl<B: Layer> Port for L1<B> {
 
     ghost crowded = { λ s n. B.crowded s.below n };
 
-    ghost did_touch = { λ s line result t. Makes B.did_read B.did_write s.below (Touches s.sets s.counts line result t.sets t.counts) t.below };
+    ghost did_touch = { λ s line result t. (t.span ≡ s.span) × Makes B.did_read B.did_write s.below (Touches s.sets s.counts line result t.sets t.counts) t.below };
 
-    ghost did_poke = { λ s at byte t. (t.below ≡ s.below) × (t.counts ≡ s.counts) × (t.sets ≡ with_set s.sets (line_at s.span at) (poked (set_of s.sets (line_at s.span at)).lines ((at - first s.span) % 64) byte)) };
+    ghost did_poke = { λ s at byte t. (t.span ≡ s.span) × (t.below ≡ s.below) × (t.counts ≡ s.counts) × (t.sets ≡ with_set s.sets (line_at s.span at) (poked (set_of s.sets (line_at s.span at)).lines ((at - first s.span) % 64) byte)) };
 
     fn span(&self) -> Geometry {
         self.span

@@ -78,8 +78,8 @@ fn images(rt: HostRuntime) -> Result<(), Fail> {
     let left = run_words(&rt, alloc, &words, &EXIT_THREE, Failing::nowhere(alloc))?;
     assert_eq!(rt; left.status.end, End::Exit { status: 3 });
     assert_eq!(rt; left.output.len(), 4100);
-    assert_eq!(rt; &left.output[..8], &[0, 0, 1, 0, 0x13, 0x05, 0x30, 0]);
-    assert_eq!(rt; &left.output[16..4100], &[0; 4084]);
+    assert_eq!(rt; &left.output[..8], [0, 0, 1, 0, 0x13, 0x05, 0x30, 0].as_slice());
+    assert_eq!(rt; &left.output[16..4100], [0; 4084].as_slice());
     assert_eq!(rt; left.note.as_slice(), b"end exit 3\nretired 3\n".as_slice());
     let mut failing = Failing::nowhere(alloc);
     failing.output.push((1, 7))?;
