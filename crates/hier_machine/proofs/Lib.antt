@@ -4,6 +4,5 @@ pub mod PlacedLemmas
 pub mod RunLemmas
 pub mod SettleLemmas
 pub mod StackLemmas
-pub mod WordLemmas
 pub mod TurnLemmas
 pub mod WordLemmas
