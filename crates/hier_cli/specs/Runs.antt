@@ -1,5 +1,5 @@
 -- Runs of the program in a file.
-use Rattle.std.specs.Prelude.{◌≡◌, ℕ, List, Some, None}
+use Rattle.std.specs.Prelude.{◌≡◌, ℕ, List, length, Some, None}
 use Rattle.elf_image.specs.Accepted.{fault_of}
 use Rattle.hier_types.specs.Span.{Span}
 use Rattle.hier_types.specs.declared.faults.NoSpace.{NoSpace}
@@ -14,6 +14,7 @@ use Rattle.hier_machine.specs.Placed.{NoRoomFor}
 use Rattle.hier_machine.specs.Reports.{Reports}
 use Rattle.hier_machine.specs.Runs.{Runs}
 use Rattle.hier_machine.specs.Spaces.{IsSpaceEnd}
+use Rattle.hier_machine.specs.StackRun.{StackRun, stack_of}
 use Rattle.hier_machine.specs.Start.{Starts, start_guest}
 use Rattle.hier_machine.specs.State.{State}
 use Rattle.run_report.specs.declared.end.End.{End}
@@ -54,8 +55,9 @@ abbrev pub IsCrowdedIfRefused : Memory → MachineEnd → Type 0
 IsCrowdedIfRefused memory (machine.Space refusal) = Crowded (store_of memory) refusal
 IsCrowdedIfRefused memory end = Unit {0}
 
--- The file was accepted, and its program ran to this end: as the flat run with the settings' budget says, and beat by beat
--- over both cache levels and the pages that the image was placed in.
+-- The file was accepted, and its program ran to this end: as the flat run with the settings' budget says, beat by beat over
+-- both cache levels and the pages that the image was placed in, and so over the lists of both levels above plain contents,
+-- where a run that was refused a block is cut at a write that the contents are tight for.
 pub record Ran (settings : Settings) (file : List ℕ) (streams : Streams) (own : End) (last : State) : Type 0 where
   pub accepted : fault_of settings.geometry file ≡ None
   pub end : MachineEnd
@@ -63,6 +65,9 @@ pub record Ran (settings : Settings) (file : List ℕ) (streams : Streams) (own 
   pub first : State
   pub starts : Starts settings file first
   pub machine : Runs first end last streams
+  pub stack : StackRun settings.codec settings.frames settings.beats (stack_of first) end (stack_of last)
+  pub codec : (store_of last.memory).codec ≡ settings.codec
+  pub frames : length (store_of last.memory).used ≡ settings.frames
   pub told : IsEndOf last.memory end own
   pub crowded : IsCrowdedIfRefused last.memory end
 

@@ -61,7 +61,8 @@ fn notes_that_fail(rt: HostRuntime) -> Result<(), Fail> {
     for call in 0..14u64 {
         let mut failing = Failing::nowhere(alloc);
         failing.note.push((call, 0))?;
-        let left = run_program(&rt, alloc, &EXIT_THREE, failing)?;
+        let words = ["run", "a", "--pages", "1", "--frames", "1"];
+        let left = run_words(&rt, alloc, &words, &EXIT_THREE, failing)?;
         assert_eq!(rt; (left.status.end, left.status.code), (End::NoteFault, 212));
         let lines = left.note.iter().filter(|byte| **byte == b'\n').count();
         assert_eq!(rt; lines as u64, call);

@@ -1,6 +1,5 @@
 // Caches of many shapes, and memories without room.
 use super::*;
-use rv_asm::demo_program;
 
 /// Stores a word that no other page has to the first line of page after page, from 00020000 on.
 const STORE_TO_PAGES: [u32; 7] = [
@@ -13,12 +12,32 @@ const STORE_TO_PAGES: [u32; 7] = [
     0xff5f_f06f, // jal x0, -12
 ];
 
-/// Under each shape of the caches and each number of frames that has room, output and memory are the same.
+/// Fills 16 KiB from 00020000 on with the multiples of a number, adds them up, and exits with the sum.
+const FILL_AND_ADD: [u32; 15] = [
+    0x0002_0437, // lui x8, 0x20
+    0x0002_44b7, // lui x9, 0x24
+    0x0123_4337, // lui x6, 0x1234
+    0x5673_0313, // addi x6, x6, 0x567
+    0x0062_82b3, // add x5, x5, x6
+    0x0054_2023, // sw x5, 0(x8)
+    0x0044_0413, // addi x8, x8, 4
+    0xfe94_1ae3, // bne x8, x9, -12
+    0xffc4_0413, // addi x8, x8, -4
+    0x0004_2383, // lw x7, 0(x8)
+    0x0075_0533, // add x10, x10, x7
+    0x0002_0eb7, // lui x29, 0x20
+    0xffd4_18e3, // bne x8, x29, -16
+    0x05d0_0893, // addi x17, x0, 93
+    ECALL,
+];
+
+/// Under each shape of the caches output, end and memory are the same.
 #[test]
 fn shapes_change_nothing(rt: HostRuntime) -> Result<(), Fail> {
     let alloc = rt.alloc();
-    let program = demo_program(alloc, 9).ok().ok_or("no memory")?;
-    let flat = run_on(&rt, alloc, &["flat", "a"], program.clone()?, Failing::nowhere(alloc))?;
+    let nowhere = || Failing::nowhere(alloc);
+    let flat = run_words(&rt, alloc, &["flat", "a"], &FILL_AND_ADD, nowhere())?;
+    let mut image = Vec::new(alloc);
     for (l1_sets, l1_ways, l2_sets, l2_ways, codec) in [
         ("1", "1", "1", "1", "bdi"),
         ("1", "2", "1", "1", "fpc"),
@@ -33,15 +52,22 @@ fn shapes_change_nothing(rt: HostRuntime) -> Result<(), Fail> {
         ("256", "2", "4096", "1", "bdi"),
         ("1024", "16", "4096", "16", "fpc"),
     ] {
-        let words = [
-            "run", "a", "--l1-sets", l1_sets, "--l1-ways", l1_ways, "--l2-sets", l2_sets,
-            "--l2-ways", l2_ways, "--codec", codec, "--pages", "512", "--frames", "512",
-        ];
-        let left = run_on(&rt, alloc, &words, program.clone()?, Failing::nowhere(alloc))?;
-        assert_eq!(rt; left.status.end, flat.status.end);
-        assert_eq!(rt; left.output.as_slice(), flat.output.as_slice());
-        assert!(rt; left.note.starts_with(&flat.note));
+        for command in ["run", "image"] {
+            let words = [
+                command, "a", "--l1-sets", l1_sets, "--l1-ways", l1_ways, "--l2-sets", l2_sets,
+                "--l2-ways", l2_ways, "--codec", codec, "--pages", "24", "--frames", "24",
+            ];
+            let left = run_words(&rt, alloc, &words, &FILL_AND_ADD, nowhere())?;
+            assert_eq!(rt; left.status.end, flat.status.end);
+            assert!(rt; left.note.starts_with(&flat.note));
+            if image.is_empty() {
+                image = left.output;
+            } else if command == "image" {
+                assert_eq!(rt; left.output.as_slice(), image.as_slice());
+            }
+        }
     }
+    assert_eq!(rt; image.len(), 5 * 4100);
     Ok(())
 }
 

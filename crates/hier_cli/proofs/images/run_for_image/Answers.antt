@@ -15,7 +15,7 @@ returns-clause-ends g c =
     record {
       last = last;
       own = own;
-      ran = ran settings c.args.file.items c.in-Ok.machine last c.run-end.result own (streams input dropped) c.in-Ok.ensures.ok.0 c.in-Ok.ensures.ok.1 c.run-end.ensures.runs c.end_of_machine-own.ensures;
+      ran = ran settings c.args.file.items c.in-Ok.machine last c.run-end.result own (streams input dropped) c.in-Ok.ensures.ok.0 c.in-Ok.ensures.ok.1 c.run-end.ensures.runs c.run-end.ensures.stack c.end_of_machine-own.ensures;
       count = c.retired-retired.ensures;
       printed = rw c.end_after.ensures (is_written _ _ _ _ (image_text settings.geometry last.guest.hart.bytes) own OutFault c.print_pages-printed.result printed.ok printed.err printed.cause);
     }
