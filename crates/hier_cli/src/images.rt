@@ -60,7 +60,12 @@ fn print_pages<O: Sink>(machine: &Machine, geometry: Geometry, out: &mut O) -> R
 }
 
 /// Prints a page, unless it is zero.
-fn print_page<O: Sink>(bytes: &[u8; 4096], geometry: Geometry, number: u32, out: &mut O) -> Result<(), Failed>
+fn print_page<O: Sink>(
+    bytes: &[u8; 4096],
+    geometry: Geometry,
+    number: u32,
+    out: &mut O,
+) -> Result<(), Failed>
     requires { number < geometry.pages }
     ensures ok { OnOk result (Appends (O.written out.old) (O.written out.new) (text_of_page geometry number bytes.now)) }
     ensures err { OnErr result (AppendsFront (O.written out.old) (O.written out.new) (text_of_page geometry number bytes.now)) }

@@ -55,7 +55,13 @@ fn obey<R: Threads + Sync, S: Shelf, I: Source, O: Sink>(
         Command::Run => Ok(run_file(alloc, load(alloc, shelf, name)?, settings, input, out)),
         Command::Image => Ok(run_for_image(alloc, load(alloc, shelf, name)?, settings, input, out)),
         Command::Flat => Ok(run_flat(alloc, load(alloc, shelf, name)?, settings, input, out)),
-        Command::Survey => Ok(survey_file(rt, alloc, &load(alloc, shelf, name)?, settings.codec, out)),
+        Command::Survey => Ok(survey_file(
+            rt,
+            alloc,
+            &load(alloc, shelf, name)?,
+            settings.codec,
+            out,
+        )),
         Command::Gen { number } => Ok(write_demo(alloc, number, out)),
         Command::Demo { number } => Ok(run_demo(alloc, number, settings, input, out)),
         Command::Layout | Command::Trace => Err(End::NotBuilt {

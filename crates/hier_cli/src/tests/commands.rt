@@ -14,7 +14,8 @@ const BEFORE_TURNS: &str =
 const AFTER_TURNS: &str =
     "\ntidy 0\nsettle done\nclasses 1 0 0 0\nexceptions 1\nencoded 190\nblocks 512\nratio 800\n";
 
-const JSON: &[u8] = b"{\"blocks\":512,\"classes\":[1,0,0,0],\"encoded\":190,\"end\":\"exit 3\",\"exceptions\":1,\"l1\":[2,1,0],\"l2\":[1,0,0,0],\"meta\":[0,0],\"pages\":[1,0],\"ratio\":800,\"retired\":3,\"settle\":\"done\",\"tidy\":0,\"turns\":[0,0]}\n";
+const JSON: &[u8] =
+    b"{\"blocks\":512,\"classes\":[1,0,0,0],\"encoded\":190,\"end\":\"exit 3\",\"exceptions\":1,\"l1\":[2,1,0],\"l2\":[1,0,0,0],\"meta\":[0,0],\"pages\":[1,0],\"ratio\":800,\"retired\":3,\"settle\":\"done\",\"tidy\":0,\"turns\":[0,0]}\n";
 
 /// The report with these turns.
 fn report_with(alloc: Global, turns: &str) -> Result<String, Fail> {
@@ -79,14 +80,20 @@ fn images(rt: HostRuntime) -> Result<(), Fail> {
     let left = run_words(&rt, alloc, &words, &EXIT_THREE, Failing::nowhere(alloc))?;
     assert_eq!(rt; left.status.end, End::Exit { status: 3 });
     assert_eq!(rt; left.output.len(), 4100);
-    assert_eq!(rt; &left.output[..8], [0, 0, 1, 0, 0x13, 0x05, 0x30, 0].as_slice());
+    assert_eq!(rt;
+        &left.output[..8],
+        [0, 0, 1, 0, 0x13, 0x05, 0x30, 0].as_slice()
+    );
     assert_eq!(rt; &left.output[16..4100], [0; 4084].as_slice());
     assert_eq!(rt; left.note.as_slice(), b"end exit 3\nretired 3\n".as_slice());
     let mut failing = Failing::nowhere(alloc);
     failing.output.push((1, 7))?;
     let left = run_words(&rt, alloc, &words, &EXIT_THREE, failing)?;
     assert_eq!(rt; (left.status.end, left.output.len()), (End::OutFault, 11));
-    assert_eq!(rt; left.note.as_slice(), b"end output failed\nretired 3\n".as_slice());
+    assert_eq!(rt;
+        left.note.as_slice(),
+        b"end output failed\nretired 3\n".as_slice()
+    );
     Ok(())
 }
 
@@ -105,7 +112,13 @@ fn generated_programs(rt: HostRuntime) -> Result<(), Fail> {
     assert_eq!(rt; file.note.as_slice(), b"end done\n".as_slice());
     let expected = demo_program(alloc, 7).ok().ok_or("no memory")?;
     assert_eq!(rt; file.output.as_slice(), expected.as_slice());
-    let run = run_on(&rt, alloc, &["run", "a"], file.output, Failing::nowhere(alloc))?;
+    let run = run_on(
+        &rt,
+        alloc,
+        &["run", "a"],
+        file.output,
+        Failing::nowhere(alloc),
+    )?;
     assert_eq!(rt; run.note.as_slice(), demo.note.as_slice());
     Ok(())
 }
@@ -120,12 +133,19 @@ fn surveys(rt: HostRuntime) -> Result<(), Fail> {
         noise = noise.wrapping_mul(1_664_525).wrapping_add(1_013_904_223);
         bytes[place] = (noise >> 24) as u8;
     }
-    let text = b"pages 2\nzero 1\nclasses 1 0 0 0\nexceptions 1\nencoded 190\nblocks 512\nratio 800\n";
+    let text =
+        b"pages 2\nzero 1\nclasses 1 0 0 0\nexceptions 1\nencoded 190\nblocks 512\nratio 800\n";
     let left = run_on(&rt, alloc, &["survey", "a"], bytes, Failing::nowhere(alloc))?;
     assert_eq!(rt; (left.status.end, left.status.code), (End::Done, 0));
     assert_eq!(rt; left.output.as_slice(), text.as_slice());
     assert_eq!(rt; left.note.as_slice(), b"end done\n".as_slice());
-    let none = run_on(&rt, alloc, &["survey", "a"], Vec::new(alloc), Failing::nowhere(alloc))?;
+    let none = run_on(
+        &rt,
+        alloc,
+        &["survey", "a"],
+        Vec::new(alloc),
+        Failing::nowhere(alloc),
+    )?;
     let text = b"pages 0\nzero 0\nclasses 0 0 0 0\nexceptions 0\nencoded 0\nblocks 0\nratio 0\n";
     assert_eq!(rt; none.output.as_slice(), text.as_slice());
     Ok(())

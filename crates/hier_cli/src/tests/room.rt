@@ -54,8 +54,22 @@ fn shapes_change_nothing(rt: HostRuntime) -> Result<(), Fail> {
     ] {
         for command in ["run", "image"] {
             let words = [
-                command, "a", "--l1-sets", l1_sets, "--l1-ways", l1_ways, "--l2-sets", l2_sets,
-                "--l2-ways", l2_ways, "--codec", codec, "--pages", "24", "--frames", "24",
+                command,
+                "a",
+                "--l1-sets",
+                l1_sets,
+                "--l1-ways",
+                l1_ways,
+                "--l2-sets",
+                l2_sets,
+                "--l2-ways",
+                l2_ways,
+                "--codec",
+                codec,
+                "--pages",
+                "24",
+                "--frames",
+                "24",
             ];
             let left = run_words(&rt, alloc, &words, &FILL_AND_ADD, nowhere())?;
             assert_eq!(rt; left.status.end, flat.status.end);
@@ -76,11 +90,26 @@ fn shapes_change_nothing(rt: HostRuntime) -> Result<(), Fail> {
 fn pages_without_room_end_runs(rt: HostRuntime) -> Result<(), Fail> {
     let alloc = rt.alloc();
     let words = [
-        "run", "a", "--frames", "1", "--l1-sets", "1", "--l1-ways", "2", "--l2-sets", "1",
-        "--l2-ways", "1", "--beats", "h",
+        "run",
+        "a",
+        "--frames",
+        "1",
+        "--l1-sets",
+        "1",
+        "--l1-ways",
+        "2",
+        "--l2-sets",
+        "1",
+        "--l2-ways",
+        "1",
+        "--beats",
+        "h",
     ];
     let left = run_words(&rt, alloc, &words, &STORE_TO_PAGES, Failing::nowhere(alloc))?;
     assert_eq!(rt; left.status.code, 208);
-    assert!(rt; left.note.starts_with(b"end space 00027000 0 free 0 0 0 0\nretired "));
+    assert!(rt;
+        left.note
+            .starts_with(b"end space 00027000 0 free 0 0 0 0\nretired ")
+    );
     Ok(())
 }
