@@ -53,7 +53,7 @@ def picture(rows):
         f'<rect width="{width}" height="{height}" fill="white"/>',
     ]
     for place, (size, colour) in enumerate(CLASSES):
-        x = LEFT + 90 * place
+        x = LEFT + 115 * place
         parts.append(f'<rect x="{x}" y="14" width="12" height="12" fill="{colour}"/>')
         parts.append(text(x + 18, 25, f"{size} bytes"))
     for x, word in [(14, "pages"), (90, "exceptions"), (190, "ratio")]:

@@ -1,0 +1,28 @@
+#!/bin/sh
+# Times the survey of 64 MiB of rising numbers and noise under hiersim, on one processor and on all, and cat beside it.
+folder=$(dirname "$0")
+file=$(mktemp)
+trap 'rm -f "$file"' EXIT
+python3 - "$file" <<'PYTHON'
+import array, random, sys
+noise = random.Random(1)
+with open(sys.argv[1], "wb") as file:
+    for page in range(16384):
+        first = noise.getrandbits(32)
+        step = noise.choice([1, 4, 300, 70000])
+        file.write(array.array("I", [(first + step * word) % 2**32 for word in range(1024)]).tobytes())
+PYTHON
+
+# The milliseconds that a command takes, which has to end with status 0.
+milliseconds() {
+    start=$(date +%s%N)
+    "$@" >/dev/null 2>&1 || exit 1
+    echo $((($(date +%s%N) - start) / 1000000))
+}
+
+processors=$(nproc)
+one=$(milliseconds taskset -c 0 "$folder/../hiersim" survey "$file") || exit 1
+all=$(milliseconds "$folder/../hiersim" survey "$file") || exit 1
+cat=$(milliseconds cat "$file") || exit 1
+echo "survey: $one ms on one processor, $all ms on $processors, $cat ms for cat"
+echo "speed-up: $((100 * one / all)) hundredths of one processor"
