@@ -10,7 +10,7 @@ clang="clang --target=riscv32-unknown-elf -mno-relax -Qunused-arguments"
 
 compile() {
     if command -v riscv64-unknown-elf-gcc >/dev/null; then
-        riscv64-unknown-elf-gcc $flags -nostdlib -nostartfiles -T "$folder/link.ld" -o "$2" "$folder/start.s" "$1"
+        riscv64-unknown-elf-gcc $flags -nostdlib -nostartfiles -s -T "$folder/link.ld" -o "$2" "$folder/start.s" "$1"
     else
         $clang $flags -c -o "$objects/start.o" "$folder/start.s"
         $clang $flags -c -o "$objects/program.o" "$1"
@@ -27,3 +27,6 @@ for program in copy words; do
     echo "built examples/$program.elf"
 done
 printf 'one three eleven two\n' | "$folder/../../hiersim" run "$folder/../words.elf"
+if command -v qemu-riscv32 >/dev/null; then
+    printf 'one three eleven two\n' | qemu-riscv32 "$folder/../words.elf"
+fi
