@@ -1,5 +1,5 @@
 -- What settling leaves, and what a report says of it.
-use Rattle.std.proofs.Common.{◌≡◌, ◌∙◌, ℕ, List, [], ◌∷◌, Result, Ok, Err, MatchResult, OnOk, ap, sym, subst}
+use Rattle.std.proofs.Common.{◌≡◌, ◌∙◌, List, [], ◌∷◌, Ok, Err, MatchResult, ap}
 use Rattle.hier_types.specs.Calls.{Answer, Call, Made, Read, Write}
 use Rattle.hier_types.specs.declared.counts.Totals.{Totals}
 use Rattle.hier_types.specs.declared.settings.Codec.{Codec}

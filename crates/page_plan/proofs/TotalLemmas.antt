@@ -1,9 +1,7 @@
 -- The totals of a memory go together.
-use Rattle.std.proofs.Common.{◌≡◌, ◌+◌, ◌*◌, ◌≤◌, ◌∙◌, ℕ, zero, suc, Bool, List, [], ◌∷◌, cond, length, map, refl, sym, arith}
+use Rattle.std.proofs.Common.{◌≡◌, ◌+◌, ◌*◌, ◌≤◌, ℕ, zero, suc, Bool, List, [], ◌∷◌, cond, length, map, refl, arith}
 use Rattle.std.specs.List.{sum_by, count_by}
 use Rattle.std.proofs.lemmas.List.Sums.{sum_by-cons}
-use Rattle.std.proofs.lemmas.List.{length-map}
-use Rattle.hier_types.specs.declared.counts.Totals.{Totals}
 use Rattle.hier_types.specs.declared.settings.Codec.{Codec}
 use Rattle.page_plan.specs.declared.least.PagePlan.{PagePlan}
 use Rattle.page_plan.specs.declared.least.PagePlan.TheVariants as plan

@@ -1,5 +1,5 @@
 -- What the pages take by how they are kept is what their lines say.
-use Rattle.std.proofs.Common.{◌≡◌, ◌≤◌, ◌+◌, ◌*◌, ◌==◌, ◌∙◌, cond, ℕ, suc, Bool, Option, Some, List, [], ◌∷◌, length, map, slice_get, refl, sym, ap, arith}
+use Rattle.std.proofs.Common.{◌≡◌, ◌==◌, ◌∙◌, cond, ℕ, suc, Option, Some, List, [], ◌∷◌, length, map, slice_get, refl, sym, ap, arith}
 use Rattle.std.specs.List.{sum_by, count_by}
 use Rattle.std.proofs.lemmas.List.Sums.{sum_by-cons}
 use Rattle.hier_types.specs.declared.settings.Codec.{Codec}
@@ -13,7 +13,7 @@ use Rattle.page_store.specs.declared.desc.Desc.{Desc}
 use Rattle.page_store.specs.declared.desc.Desc.TheVariants.{Zero, Packed, Raw}
 use Rattle.page_plan.specs.Pages.{pages_of, plans_of}
 use Rattle.page_store.specs.PageBlocks.{IsAtPlan}
-use Rattle.page_plan.specs.Sizes.{has_order, is_zero, block_bytes, exceptions_in, bytes_at, encoded_by, encoded_in, sizes_of_memory}
+use Rattle.page_plan.specs.Sizes.{has_order, is_zero, exceptions_in, bytes_at, encoded_by, encoded_in, sizes_of_memory}
 use Rattle.page_store.specs.KeptSizes.{has_none, has_block, exceptions_kept, encoded_kept, sum_kept, totals_kept}
 use Rattle.page_store.proofs.ListLemmas.{sum_by-map}
 

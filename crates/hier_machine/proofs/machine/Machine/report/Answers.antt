@@ -2,7 +2,6 @@ use Rattle.std.proofs.Common.{◌≡◌, ◌∙◌, ap, refl}
 use Rattle.page_plan.specs.Sizes.{sizes_of_memory}
 use Rattle.page_plan.proofs.TotalLemmas.{blocks_of_memory}
 use Rattle.page_store.specs.Store.{Store}
-use Rattle.hier_types.specs.declared.counts.Totals.{Totals}
 use Rattle.hier_machine.specs.Memory.{store_of}
 use Rattle.hier_machine.proofs.SettleLemmas.{settled_done}
 use Rattle.hier_machine.proofs.machine.Machine.report.Goals as goal
