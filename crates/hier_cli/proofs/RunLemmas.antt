@@ -1,8 +1,7 @@
 -- From the run of a machine to the run of a file's program.
-use Rattle.std.proofs.Common.{◌≡◌, None, Some, ℕ, List, ap, refl, subst, sym}
+use Rattle.std.proofs.Common.{◌≡◌, None, ℕ, List, ap, subst, sym}
 use Rattle.std.proofs.lemmas.Option.{none-some}
 use Rattle.hier_types.specs.declared.beats.Beat.TheVariants.{Hart, Mover, Cleaner}
-use Rattle.hier_types.specs.declared.faults.NoSpace.{NoSpace}
 use Rattle.hier_types.specs.declared.settings.Settings.{Settings}
 use Rattle.elf_image.specs.Accepted.{fault_of}
 use Rattle.sys_shim.specs.Streams.{Streams}
@@ -11,7 +10,7 @@ use Rattle.rv_guest.specs.declared.ends.MachineEnd.TheVariants as machine
 use Rattle.rv_guest.specs.Runs as guest
 use Rattle.hier_machine.specs.Reports.{Reports}
 use Rattle.hier_machine.specs.Runs.{LastBeat, Runs}
-use Rattle.hier_machine.specs.Start.{Starts, start_guest}
+use Rattle.hier_machine.specs.Start.{Starts}
 use Rattle.hier_machine.specs.State.{State}
 use Rattle.run_report.specs.declared.end.End.{End}
 use Rattle.run_report.specs.declared.report.Report.{Report}
