@@ -1,5 +1,5 @@
 -- The pages of an image, one after another.
-use Rattle.std.proofs.Common.{◌≡◌, ◌∙◌, ◌<◌, ◌+◌, ◌-◌, ℕ, suc, List, [], ◌∷◌, ◌++◌, Option, ap, refl, sym, subst, arith}
+use Rattle.std.proofs.Common.{◌≡◌, ◌∙◌, ◌<◌, ◌+◌, ◌-◌, ℕ, List, [], ◌∷◌, ◌++◌, Option, ap, sym, subst, arith}
 use Rattle.std.proofs.KnownBytes.{Appends-trans}
 use Rattle.std.proofs.lemmas.Grind.{flat_map-append}
 use Rattle.std.proofs.lemmas.List.{append-nil}
@@ -7,7 +7,7 @@ use Rattle.std.specs.Io.KnownBytes.{Appends}
 use Rattle.hier_types.specs.Lines.{flatten}
 use Rattle.hier_types.specs.Outside.{AppendsFront}
 use Rattle.hier_types.specs.Tabulate.{tabulate}
-use Rattle.hier_types.proofs.TableLemmas.{tabulate-add, tabulate-more, tabulate-none}
+use Rattle.hier_types.proofs.TableLemmas.{tabulate-add, tabulate-more}
 use Rattle.run_report.proofs.FrontLemmas.{front_of_both, front_of_first}
 
 flatten-append : (lines more : List (List ℕ)) → flatten (lines ++ more) ≡ flatten lines ++ flatten more

@@ -1,4 +1,6 @@
 pub mod ImageLemmas
 pub mod NoticeLemmas
+pub mod RowLemmas
 pub mod RunLemmas
 pub mod StreamLemmas
+pub mod TraceLemmas

@@ -2,7 +2,6 @@
 use Rattle.std.proofs.Common.{◌≡◌, ℕ, zero, suc, List, length, None, Some, ap, subst, sym, arith}
 use Rattle.std.proofs.lemmas.Option.{none-some}
 use Rattle.hier_types.specs.declared.beats.Beat.TheVariants.{Hart, Mover, Cleaner}
-use Rattle.hier_types.specs.declared.faults.NoSpace.{NoSpace}
 use Rattle.hier_types.specs.declared.settings.Codec.{Codec}
 use Rattle.hier_types.specs.declared.settings.Settings.{Settings}
 use Rattle.elf_image.specs.Accepted.{fault_of}
@@ -15,7 +14,7 @@ use Rattle.hier_machine.specs.Reports.{Reports}
 use Rattle.hier_machine.specs.Memory.{store_of}
 use Rattle.hier_machine.specs.Runs.{LastBeat, Passed, Runs}
 use Rattle.hier_machine.specs.StackRun.{StackRun, stack_of}
-use Rattle.hier_machine.specs.Start.{Starts, start_guest}
+use Rattle.hier_machine.specs.Start.{Starts}
 use Rattle.hier_machine.specs.State.{State}
 use Rattle.hier_machine.proofs.PlacedLemmas.{placed_facts}
 use Rattle.hier_machine.proofs.StackLemmas.{Keeps, keeps_beat}

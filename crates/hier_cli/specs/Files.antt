@@ -1,5 +1,5 @@
 -- What stands outside of the program, and the file that its words name.
-use Rattle.std.specs.Prelude.{◌≡◌, ◌⊎◌, ℕ, ◌<◌, ◌≤◌, List, length, Option, Some, None, MatchOption, IfSome}
+use Rattle.std.specs.Prelude.{◌≡◌, ◌⊎◌, ℕ, ◌<◌, ◌≤◌, List, length, Option, Some, MatchOption, IfSome}
 use Rattle.hier_types.specs.Causes.{Rose}
 use Rattle.hier_types.specs.Outside.{file_of}
 use Rattle.sys_shim.specs.Streams.{AreUntouched, Streams}

@@ -1,5 +1,5 @@
 -- Runs of the program in a file over flat memory.
-use Rattle.std.specs.Prelude.{◌≡◌, ℕ, List, Some, None}
+use Rattle.std.specs.Prelude.{◌≡◌, ℕ, List, None}
 use Rattle.elf_image.specs.Accepted.{fault_of}
 use Rattle.hier_types.specs.declared.settings.Settings.{Settings}
 use Rattle.sys_shim.specs.Streams.{AreUntouched, Streams}

@@ -20,6 +20,7 @@ use Rattle.hier_cli.specs.FlatRuns.{EndsFlat}
 use Rattle.hier_cli.specs.Images.{EndsImage}
 use Rattle.hier_cli.specs.Runs.{EndsRun}
 use Rattle.hier_cli.specs.Surveys.{EndsSurvey, PrintsAlone, demo_file}
+use Rattle.hier_cli.specs.Traces.{EndsTraceFile}
 
 -- the words ask for this: by the matches that are stated for them, and where their spelling is plain, as they say
 pub record AskFor (words : List (List ℕ)) (answer : Result Request WordsFault) : Type 0 where
@@ -39,7 +40,7 @@ Obeys Survey file settings out notice = OnFile out file (EndsSurvey settings out
 Obeys (Gen number) file settings out notice = PrintsAlone (demo_file number) out.streams notice
 Obeys (Demo number) file settings out notice = EndsRun settings out.streams (demo_file number) notice
 Obeys Layout file settings out notice = IsNotBuilt out notice
-Obeys Trace file settings out notice = IsNotBuilt out notice
+Obeys Trace file settings out notice = OnFile out file (EndsTraceFile settings out.streams) notice
 
 -- the end of words that make no request
 abbrev pub end_of_words : WordsFault → End

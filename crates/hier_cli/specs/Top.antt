@@ -1,5 +1,5 @@
 -- What the program does, from its words to its status.
-use Rattle.std.specs.Prelude.{◌≡◌, ℕ, List, Result, map, string_bytes, String}
+use Rattle.std.specs.Prelude.{List, Result, map, string_bytes, String}
 use Rattle.std.specs.declared.alloc.Global.{Global}
 use Rattle.sim_words.specs.declared.request.Request.{Request}
 use Rattle.sim_words.specs.declared.request.WordsFault.{WordsFault}

@@ -12,6 +12,7 @@ mod surveys;
 #[cfg(test)]
 mod tests;
 mod top;
+mod traces;
 
 use adapters::{FileShelf, StreamSink, StreamSource};
 use run_report::End;

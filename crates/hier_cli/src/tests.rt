@@ -11,6 +11,7 @@ mod instructions;
 mod room;
 mod runs;
 mod streams;
+mod traces;
 
 const ECALL: u32 = 0x0000_0073;
 

@@ -13,6 +13,7 @@ use crate::notice::{Notice, write_notice};
 use crate::runs::{run_demo, run_file};
 use crate::status::Status;
 use crate::surveys::{survey_file, write_demo};
+use crate::traces::run_trace;
 use hier_types::{Settings, Shelf, ShelfFault, Sink, Source};
 use run_report::{End, Part};
 use sim_words::{Command, Request, WordsFault, read_words};
@@ -64,7 +65,8 @@ fn obey<R: Threads + Sync, S: Shelf, I: Source, O: Sink>(
         )),
         Command::Gen { number } => Ok(write_demo(alloc, number, out)),
         Command::Demo { number } => Ok(run_demo(alloc, number, settings, input, out)),
-        Command::Layout | Command::Trace => Err(End::NotBuilt {
+        Command::Trace => Ok(run_trace(alloc, load(alloc, shelf, name)?, settings, input, out)),
+        Command::Layout => Err(End::NotBuilt {
             part: Part::Command,
         }),
     }

@@ -1,10 +1,9 @@
-use Rattle.std.proofs.Common.{◌≡◌, ◌≤◌, ◌*◌, ◌/◌, ◌+◌, ◌∙◌, length, ap, sym, inr, arith}
+use Rattle.std.proofs.Common.{◌*◌, ◌/◌, length, inr, arith}
 use Rattle.hier_types.proofs.TableLemmas.{length-tabulate}
-use Rattle.page_plan.specs.Pages.{page_of, pages_of}
-use Rattle.page_plan.specs.Sizes.{sizes_of_memory}
+use Rattle.page_plan.specs.Pages.{page_of}
 use Rattle.page_plan.proofs.TotalLemmas.{blocks_of_memory, pages_of_memory}
 use Rattle.sim_survey.specs.Filled.{line_at, lines_of_filled, page_count}
-use Rattle.run_report.specs.ReportLines.{pages_of as pages_of_totals, survey_text}
+use Rattle.run_report.specs.ReportLines.{survey_text}
 use Rattle.run_report.specs.declared.end.End.TheVariants.{Done, OutFault}
 use Rattle.hier_cli.proofs.NoticeLemmas.{is_written}
 use Rattle.hier_cli.proofs.surveys.survey_file.Goals as goal

@@ -1,0 +1,186 @@
+// Traces, over the memory hierarchy.
+use super::*;
+use trace_reader::{TraceFault, TraceKind};
+
+/// A word, and loads of its low half and of its highest byte.
+const PARTS_OF_A_WORD: &str = "S 10000 4 12345678\nL 10000 2\nL 10003 1\n";
+
+/// A store to the first line of each of twelve pages.
+const TWELVE_PAGES: &str =
+    "S 10000 4 1\nS 11000 4 1\nS 12000 4 1\nS 13000 4 1\nS 14000 4 1\nS 15000 4 1\n\
+S 16000 4 1\nS 17000 4 1\nS 18000 4 1\nS 19000 4 1\nS 1a000 4 1\nS 1b000 4 1\n";
+
+/// A store, and loads of as many other lines as put its line out of both levels, before it is loaded again.
+const OUT_AND_BACK: &str = "S 10000 4 1\nL 11000 4\nL 12000 4\nL 13000 4\nL 10000 4\nL 10040 4\n";
+
+const NOTE_OUT_AND_BACK: &str =
+    "end done\nretired 6\nl1 0 6 1\nl2 6 0 1 1\npages 6 1\nmeta 0 0\nturns 0 0\ntidy 0\n\
+settle done\nclasses 1 0 0 0\nexceptions 1\nencoded 190\nblocks 512\nratio 800\n";
+
+/// Caches of two lines and of one set, and no turn of the mover or the cleaner.
+const SMALL_CACHES: [&str; 10] = [
+    "--l1-sets",
+    "1",
+    "--l1-ways",
+    "2",
+    "--l2-sets",
+    "1",
+    "--l2-ways",
+    "1",
+    "--beats",
+    "h",
+];
+
+/// Runs `trace a` on rows, over sixteen pages in so many frames.
+fn trace<R: Threads + Sync>(
+    rt: &R,
+    alloc: Global,
+    rows: &str,
+    frames: &str,
+    options: &[&str],
+    failing: Failing,
+) -> Result<Left, Fail> {
+    let mut words = Vec::new(alloc);
+    for word in ["trace", "a", "--pages", "16", "--frames", frames] {
+        words.push(word)?;
+    }
+    for option in options {
+        words.push(*option)?;
+    }
+    let file = Vec::from_slice(alloc, rows.as_bytes())?;
+    run_on(rt, alloc, &words, file, failing)
+}
+
+/// Each load prints its value, and a trace with a fault does nothing.
+#[test]
+fn values_of_loads(rt: HostRuntime) -> Result<(), Fail> {
+    let alloc = rt.alloc();
+    let fault = TraceFault {
+        line: 2,
+        kind: TraceKind::Align,
+    };
+    for (rows, end, output, note) in [
+        ("", End::Done, "", "end done\nretired 0\n"),
+        (
+            PARTS_OF_A_WORD,
+            End::Done,
+            "5678\n12\n",
+            "end done\nretired 3\n",
+        ),
+        (
+            "S 10006 2 aBc\nL 10004 4\n",
+            End::Done,
+            "0abc0000\n",
+            "end done\nretired 2\n",
+        ),
+        (
+            "S 10000 4 12345678\nL 10001 4\nL 10003 1\n",
+            End::BadTrace { fault },
+            "",
+            "end bad trace 2 Align\n",
+        ),
+    ] {
+        let left = trace(&rt, alloc, rows, "16", &[], Failing::nowhere(alloc))?;
+        assert_eq!(rt; left.status.end, end);
+        assert_eq!(rt; left.input.as_slice(), [1, 2].as_slice());
+        assert_eq!(rt; left.output.as_slice(), output.as_bytes());
+        assert!(rt; left.note.starts_with(note.as_bytes()));
+    }
+    Ok(())
+}
+
+/// One frame holds eight pages with a block of 512 bytes, and the caches hold the lines of three stores more.
+#[test]
+fn pages_without_room_end_traces(rt: HostRuntime) -> Result<(), Fail> {
+    let alloc = rt.alloc();
+    let left = trace(
+        &rt,
+        alloc,
+        TWELVE_PAGES,
+        "1",
+        &SMALL_CACHES,
+        Failing::nowhere(alloc),
+    )?;
+    assert_eq!(rt; left.status.code, 208);
+    assert!(rt;
+        left.note
+            .starts_with(b"end space 00018000 0 free 0 0 0 0\nretired 11\n")
+    );
+    assert!(rt; left.note.ends_with(b"\nsettle space 00018000 0\n"));
+    let left = trace(
+        &rt,
+        alloc,
+        TWELVE_PAGES,
+        "9",
+        &SMALL_CACHES,
+        Failing::nowhere(alloc),
+    )?;
+    assert_eq!(rt; left.status.end, End::Done);
+    assert!(rt; left.note.starts_with(b"end done\nretired 12\n"));
+    Ok(())
+}
+
+#[test]
+fn lines_come_back(rt: HostRuntime) -> Result<(), Fail> {
+    let alloc = rt.alloc();
+    let left = trace(
+        &rt,
+        alloc,
+        OUT_AND_BACK,
+        "16",
+        &SMALL_CACHES,
+        Failing::nowhere(alloc),
+    )?;
+    assert_eq!(rt; left.status.end, End::Done);
+    assert_eq!(rt;
+        left.output.as_slice(),
+        b"00000000\n00000000\n00000000\n00000001\n00000000\n".as_slice()
+    );
+    assert_eq!(rt; left.note.as_slice(), NOTE_OUT_AND_BACK.as_bytes());
+    Ok(())
+}
+
+/// The budget is tested before each access. Beats of others are passed over.
+#[test]
+fn budgets_end_traces(rt: HostRuntime) -> Result<(), Fail> {
+    let alloc = rt.alloc();
+    for (budget, beats, end, output, note) in [
+        ("0", "h", End::Budget, "", "end budget\nretired 0\n"),
+        ("2", "h", End::Budget, "5678\n", "end budget\nretired 2\n"),
+        (
+            "2",
+            "mhcm",
+            End::Budget,
+            "5678\n",
+            "end budget\nretired 2\n",
+        ),
+        ("3", "h", End::Done, "5678\n12\n", "end done\nretired 3\n"),
+        ("4", "cmh", End::Done, "5678\n12\n", "end done\nretired 3\n"),
+    ] {
+        let options = ["--budget", budget, "--beats", beats];
+        let left = trace(
+            &rt,
+            alloc,
+            PARTS_OF_A_WORD,
+            "16",
+            &options,
+            Failing::nowhere(alloc),
+        )?;
+        assert_eq!(rt; left.status.end, end);
+        assert_eq!(rt; left.output.as_slice(), output.as_bytes());
+        assert!(rt; left.note.starts_with(note.as_bytes()));
+    }
+    Ok(())
+}
+
+#[test]
+fn outputs_that_fail_end_traces(rt: HostRuntime) -> Result<(), Fail> {
+    let alloc = rt.alloc();
+    let mut failing = Failing::nowhere(alloc);
+    failing.output.push((1, 1))?;
+    let left = trace(&rt, alloc, PARTS_OF_A_WORD, "16", &[], failing)?;
+    assert_eq!(rt; (left.status.end, left.status.code), (End::OutFault, 211));
+    assert_eq!(rt; left.output.as_slice(), b"5678\n1".as_slice());
+    assert!(rt; left.note.starts_with(b"end output failed\nretired 3\n"));
+    Ok(())
+}
