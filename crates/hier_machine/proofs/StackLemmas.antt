@@ -35,7 +35,7 @@ pub record HasFrames (codec : Codec) (frames : ℕ) (s : Store) : Type 0 where
   pub frames_are : length s.used ≡ frames
 
 module _ (codec : Codec) (frames : ℕ) where
-  store_reads : (s : Store) (line : ℕ) (answer : Result (List ℕ) NoSpace) (t : Store) → HasFrames codec frames s → StoreRead s line answer t
+  pub store_reads : (s : Store) (line : ℕ) (answer : Result (List ℕ) NoSpace) (t : Store) → HasFrames codec frames s → StoreRead s line answer t
       → HasFrames codec frames t × ContentsRead (contents_of s) line answer (contents_of t)
   store_reads s line (Ok bytes) t keeps did =
       (rw did.1 (record { codec_is = keeps.codec_is; frames_are = keeps.frames_are }), (did.0, ap contents_of did.1))
@@ -45,7 +45,7 @@ module _ (codec : Codec) (frames : ℕ) where
       → MayCut codec frames s.lines line bytes refusal
   may_cut s line bytes refusal t keeps did = record { page = did.page_is; order = rw keeps.codec_is at did.order_is; tight = rw (keeps.codec_is, keeps.frames_are) at did.tight }
 
-  store_writes : (s : Store) (line : ℕ) (bytes : List ℕ) (answer : Answer) (t : Store) → HasFrames codec frames s → StoreWrite s line bytes answer t
+  pub store_writes : (s : Store) (line : ℕ) (bytes : List ℕ) (answer : Answer) (t : Store) → HasFrames codec frames s → StoreWrite s line bytes answer t
       → HasFrames codec frames t × ContentsWrite codec frames (contents_of s) line bytes answer (contents_of t)
   store_writes s line bytes (Ok u) t keeps did =
       (record { codec_is = did.codec_is ∙ keeps.codec_is; frames_are = did.frames_stay ∙ keeps.frames_are }, rw (did.lines_are, did.counts_are) refl)
@@ -53,17 +53,17 @@ module _ (codec : Codec) (frames : ℕ) where
       (rw did.unchanged (record { codec_is = keeps.codec_is; frames_are = keeps.frames_are }), (may_cut s line bytes refusal t keeps did, ap contents_of did.unchanged))
 
   -- the store below the second level
-  abbrev KeepsBelow : Below → Type 0
+  abbrev pub KeepsBelow : Below → Type 0
   KeepsBelow s = HasFrames codec frames s.below
 
-  second_reads : (s : Below) (line : ℕ) (answer : Result (List ℕ) NoSpace) (t : Below) → KeepsBelow s → BelowRead s line answer t
+  pub second_reads : (s : Below) (line : ℕ) (answer : Result (List ℕ) NoSpace) (t : Below) → KeepsBelow s → BelowRead s line answer t
       → KeepsBelow t × SecondRead ContentsRead (ContentsWrite codec frames) (second_above contents_of s) line answer (second_above contents_of t)
   second_reads s line answer t keeps did =
       let all = Makes-keeping contents_of (HasFrames codec frames) StoreRead StoreWrite ContentsRead (ContentsWrite codec frames) store_reads store_writes
       (ReadsSecond (size_under s.codec) s.sets line answer t.sets) s.below t.below keeps did.3 in
       (all.0, (did.0, did.1, did.2, all.1))
 
-  second_writes : (s : Below) (line : ℕ) (bytes : List ℕ) (answer : Answer) (t : Below) → KeepsBelow s → BelowWrite s line bytes answer t
+  pub second_writes : (s : Below) (line : ℕ) (bytes : List ℕ) (answer : Answer) (t : Below) → KeepsBelow s → BelowWrite s line bytes answer t
       → KeepsBelow t × SecondWrite ContentsRead (ContentsWrite codec frames) (second_above contents_of s) line bytes answer (second_above contents_of t)
   second_writes s line bytes answer t keeps did =
       let all = Makes-keeping contents_of (HasFrames codec frames) StoreRead StoreWrite ContentsRead (ContentsWrite codec frames) store_reads store_writes

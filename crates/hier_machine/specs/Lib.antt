@@ -10,6 +10,7 @@ pub mod Runs
 pub mod Settles
 pub mod Spaces
 pub mod StackRun
+pub mod StackSettles
 pub mod Start
 pub mod State
 pub mod Words

@@ -1,5 +1,5 @@
 -- The report of a machine that settles.
-use Rattle.std.specs.Prelude.{◌≡◌, Ok, Err}
+use Rattle.std.specs.Prelude.{◌≡◌, Ok, Err, length}
 use Rattle.hier_types.specs.Calls.{Answer}
 use Rattle.page_plan.specs.Sizes.{sizes_of_memory}
 use Rattle.run_report.specs.declared.end.End.{End}
@@ -9,6 +9,8 @@ use Rattle.run_report.specs.declared.report.Settled.{Settled}
 use Rattle.run_report.specs.declared.report.Settled.TheVariants.{Done, Space}
 use Rattle.hier_machine.specs.Memory.{lines_of, store_of}
 use Rattle.hier_machine.specs.Settles.{SettlesMachine}
+use Rattle.hier_machine.specs.StackRun.{stack_of}
+use Rattle.hier_machine.specs.StackSettles.{StackSettles}
 use Rattle.hier_machine.specs.State.{State}
 
 -- what both levels, the store and the turns have counted
@@ -29,6 +31,7 @@ SettledAs s (Err refusal) settled = settled ≡ Space refusal
 pub record Reports (old : State) (end : End) (report : Report) (new : State) : Type 0 where
   pub answer : Answer
   pub settles : SettlesMachine old answer new
+  pub stack : StackSettles (store_of old.memory).codec (length (store_of old.memory).used) (stack_of old) answer (stack_of new)
   pub settled : SettledAs old answer report.settled
   pub end_is : report.end ≡ end
   pub retired : report.retired ≡ old.guest.retired

@@ -13,6 +13,7 @@ ghost use Rattle.hier_machine.specs.Runs.{Runs};
 ghost use Rattle.hier_machine.specs.Settles.{SettlesMachine};
 ghost use Rattle.hier_machine.specs.Spaces.{AreFreeCounts, IsSpaceEnd};
 ghost use Rattle.hier_machine.specs.StackRun.{StackAccess, StackBeats, StackHart, StackRun, stack_of};
+ghost use Rattle.hier_machine.specs.StackSettles.{StackSettles};
 ghost use Rattle.hier_machine.specs.Start.{Starts, StartsEmpty, start_memory};
 ghost use Rattle.run_report.specs.ReportLines.{HasBlocksIfDone};
 
@@ -221,7 +222,8 @@ impl Machine {
     /// Writes every changed line down to the pages: those of the first level to the second, and then those of the second
     /// to the store. It stops at the first one that is refused. No byte of the guest changes.
     pub fn settle(&mut self) -> Result<(), NoSpace>
-        ensures { SettlesMachine self.old result self.new }
+        ensures settles { SettlesMachine self.old result self.new }
+        ensures stack { StackSettles (store_of self.old.memory).codec (length (store_of self.old.memory).used) (stack_of self.old) result (stack_of self.new) }
     {
         if let Err(refusal) = self.memory.flush() {
             return Err(refusal);

@@ -13,8 +13,9 @@ returns-in-Ok-clause-reports c =
     c.totals.ensures ∙ ap (λ (s : Store). sizes_of_memory s.codec s.lines) c.pages.ensures in
     record {
       answer = c.settle.result;
-      settles = c.settle.ensures;
-      settled = settled_done c.args.self.now c.settle.new.self c.settle.result c.totals.result c.settle.ensures c.in-Ok.is totals;
+      settles = c.settle.ensures.settles;
+      stack = c.settle.ensures.stack;
+      settled = settled_done c.args.self.now c.settle.new.self c.settle.result c.totals.result c.settle.ensures.settles c.in-Ok.is totals;
       end_is = refl;
       retired = c.retired-retired.ensures;
       counts = c.counts-counts.ensures;
