@@ -1,5 +1,5 @@
 -- A trace, beat by beat.
-use Rattle.std.proofs.Common.{◌≡◌, ◌≢◌, ℕ, zero, suc, ◌+◌, ◌%◌, ◌<◌, ◌≤◌, List, [], ◌∷◌, ◌++◌, length, take, drop, slice_get, false, Option, Some, Ok, inl, inr, refl, sym, ◌∙◌, ap, subst, arith, append_assoc, length-append, length-drop}
+use Rattle.std.proofs.Common.{◌≡◌, ◌≢◌, ℕ, zero, suc, ◌+◌, ◌%◌, ◌<◌, ◌≤◌, List, [], ◌∷◌, ◌++◌, length, take, drop, slice_get, false, Option, Some, Ok, inl, inr, refl, sym, ◌∙◌, ap, subst, arith, append_assoc}
 use Rattle.std.proofs.KnownBytes.{Appends-trans}
 use Rattle.std.proofs.lemmas.Bool.{cases_lt}
 use Rattle.std.proofs.lemmas.List.{append-nil}
@@ -20,9 +20,8 @@ use Rattle.hier_machine.specs.Accesses.{AccessBeats, after_access}
 use Rattle.hier_machine.specs.Beats.{Beats, Stays}
 use Rattle.hier_machine.specs.Runs.{IsBeat}
 use Rattle.hier_machine.specs.State.{State}
-use Rattle.hier_machine.specs.Words.{before_hart, gap}
-use Rattle.hier_machine.proofs.RunLemmas.{turned}
-use Rattle.hier_machine.proofs.WordLemmas.{work_left, work_shrinks}
+use Rattle.hier_machine.proofs.RunLemmas.{stays_join, turned}
+use Rattle.hier_machine.proofs.WordLemmas.{gap-le, work_left, work_shrinks}
 use Rattle.run_report.specs.declared.end.End.{End}
 use Rattle.run_report.specs.declared.end.End.TheVariants.{Space, OutFault}
 use Rattle.hier_cli.specs.Traces.{FailsAtAccess, IsRefused, IsUntaken, MakesAll, TakesTurn, TracePassed, bytes_after, printed, printed_by, zeros}
@@ -89,9 +88,6 @@ trace_none span start all s bytes retired running input output faults = record {
   input = input;
   faults = faults;
 }
-
-stays_join : (a b c : State) → Stays a b → Stays b c → Stays a c
-stays_join a b c h k = record { span = k.span ∙ h.span; budget = k.budget ∙ h.budget; beats = k.beats ∙ h.beats }
 
 -- a stretch that took nothing follows
 appends_quiet : (before mid from after : Option (List ℕ)) (text : List ℕ) → Appends before mid text → from ≡ mid → after ≡ from → Appends before after text
@@ -258,15 +254,6 @@ below_budget made budget within other = elim (cases_lt made budget) [
   | inl lt ↦ lt
   | inr le ↦ absurd (other (omega arith))
 ]
-
-before_hart-le : (beats : List Beat) → before_hart beats ≤ length beats
-before_hart-le [] = omega arith
-before_hart-le (Hart ∷ beats) = omega arith
-before_hart-le (Mover ∷ beats) = omega (arith, before_hart-le beats)
-before_hart-le (Cleaner ∷ beats) = omega (arith, before_hart-le beats)
-
-gap-le : (beats : List Beat) (place : ℕ) → length beats ≤ 64 → gap beats place ≤ 128
-gap-le beats place short = omega (arith, before_hart-le (drop place beats ++ beats), length-append (drop place beats) beats, length-drop place beats)
 
 hart_shrinks : (a b : State) (place next : ℕ) (access : Access) (value : ℕ) → IsBeatWord a.beats → a.guest.retired < a.budget → AccessBeats a access (Ok value) b → work_left b next < work_left a place
 hart_shrinks a b place next access value word lt beats =

@@ -18,7 +18,7 @@ ghost use Rattle.hier_cli.specs.Traces.{EndsTraceFile, FailsAtAccess, IsFaultles
 use crate::notice::Notice;
 use hier_machine::Machine;
 use hier_types::{Access, Beat, Failed, Settings, Sink, Source};
-use run_report::End;
+use run_report::{End, hex_digit};
 use std::alloc::Global;
 use trace_reader::{TraceRows, check};
 
@@ -169,17 +169,4 @@ fn print_value<O: Sink>(value: u32, width: u8, out: &mut O) -> Result<(), Failed
         b'\n',
     ];
     out.write(&line[8 - 2 * usize::from(width)..])
-}
-
-/// The hexadecimal digit of the four bits from `low` on.
-fn hex_digit(value: u32, low: u32) -> u8
-    requires { low < 32 }
-    ensures { result ≡ texts.hex_digit (value / 2 ^ low % 16) }
-{
-    let digit = ((value >> low) % 16) as u8;
-    if digit < 10 {
-        b'0' + digit
-    } else {
-        b'a' + (digit - 10)
-    }
 }

@@ -23,7 +23,8 @@ pub record RunsSoFar (start now : State) (count : ℕ) (streams : Streams) : Typ
   pub stays : Stays start now
   pub running : now.ended ≡ false
 
-stays_join : (a b c : State) → Stays a b → Stays b c → Stays a c
+-- what stays over two stretches stays over both
+pub stays_join : (a b c : State) → Stays a b → Stays b c → Stays a c
 stays_join a b c h k = record { span = k.span ∙ h.span; budget = k.budget ∙ h.budget; beats = k.beats ∙ h.beats }
 
 -- a run begins

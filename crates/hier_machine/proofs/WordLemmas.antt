@@ -66,7 +66,8 @@ gap_falls beats place beat has at other inside =
 abbrev pub work_left : State → ℕ → ℕ
 work_left state place = (state.budget - state.guest.retired) * 129 + gap state.beats place
 
-gap-le : (beats : List Beat) (place : ℕ) → length beats ≤ 64 → gap beats place ≤ 128
+-- a word is short, so its next beat of the hart is near
+pub gap-le : (beats : List Beat) (place : ℕ) → length beats ≤ 64 → gap beats place ≤ 128
 gap-le beats place short = omega (arith, before_hart-le (drop place beats ++ beats), length-append (drop place beats) beats, length-drop place beats)
 
 idle_shrinks : (a b : State) (place mover cleaner : ℕ) (beat : Beat) → IsBeatWord a.beats → slice_get a.beats place ≡ Some beat → is_hart beat ≡ false → place < length a.beats → b ≡ turned a mover cleaner → work_left b ((place + 1) % length a.beats) < work_left a place

@@ -22,3 +22,4 @@ pub use note::write_end;
 pub use report::{Counts, Report, Settled};
 pub use report_lines::write_text;
 pub use survey_lines::write_survey;
+pub use text_line::hex_digit;

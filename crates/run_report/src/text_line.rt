@@ -107,8 +107,8 @@ impl TextLine {
     }
 }
 
-/// The hexadecimal digit of the four bits from `low` on.
-fn hex_digit(n: u32, low: u32) -> u8
+/// The hexadecimal digit, in lower case, of the four bits of `n` from bit `low` on.
+pub fn hex_digit(n: u32, low: u32) -> u8
     requires { low < 32 }
     ensures digit { result ≡ texts.hex_digit (n / 2 ^ low % 16) }
     ensures ascii { result < 128 }

@@ -1,6 +1,6 @@
 // The line of each end, and the addresses of refused pages.
 use super::note;
-use crate::{End, Part, write_end};
+use crate::{End, Part, hex_digit, write_end};
 use elf_image::{ImageFault, ImageKind};
 use hier_types::{Failed, Geometry, NoSpace, PageNo, SettingName, Sink};
 use std::test::Fail;
@@ -138,5 +138,13 @@ fn refused_pages_have_addresses(rt: HostRuntime) -> Result<(), Fail> {
             order: 0
         }
     );
+    Ok(())
+}
+
+#[test]
+fn a_digit_is_that_of_four_bits(rt: HostRuntime) -> Result<(), Fail> {
+    for (low, digit) in [(0, b'9'), (4, b'a'), (8, b'0'), (28, b'f')] {
+        assert_eq!(rt; hex_digit(0xf000_00a9, low), digit);
+    }
     Ok(())
 }
