@@ -228,6 +228,7 @@ trace_untaken span start a b all tail count access end first second at so meets 
         last = retired;
         access = access;
         is = get_next all a.guest.retired access tail (sym so.rest);
+        load = untaken.load;
         taken = taken;
         wrote = appends_on first.output.before first.output.after second.output.before second.output.after (printed_by span (take a.guest.retired all) (zeros span))
             (take taken (printed access (value_of span access (bytes_after span (take a.guest.retired all) (zeros span))))) so.output meets.output

@@ -1,5 +1,5 @@
 -- Runs of a trace: its accesses, one after another, over the machine's memory.
-use Rattle.std.specs.Prelude.{◌≡◌, ◌≢◌, ◌⊎◌, ℕ, zero, suc, ◌-◌, ◌*◌, ◌<◌, ◌≤◌, List, [], ◌∷◌, ◌++◌, replicate, take, drop, slice_get, Option, Some, None, Ok, Err}
+use Rattle.std.specs.Prelude.{◌≡◌, ◌≢◌, ⊤, ◌⊎◌, ℕ, zero, suc, ◌-◌, ◌*◌, ◌<◌, ◌≤◌, List, [], ◌∷◌, ◌++◌, replicate, take, drop, slice_get, Option, Some, None, Ok, Err}
 use Rattle.std.specs.Io.KnownBytes.{Appends}
 use Rattle.hier_types.specs.Causes.{Rose}
 use Rattle.hier_types.specs.Span.{Span}
@@ -33,6 +33,11 @@ use Rattle.hier_cli.specs.declared.notice.Notice.TheVariants.{Ended, Reported}
 abbrev pub printed : Access → ℕ → List ℕ
 printed (Load at width) value = drop (8 - 2 * width) (address value ++ line_feed)
 printed (Store at width stored) value = []
+
+-- a load: of a store nothing is printed
+abbrev pub IsLoad : Access → Type 0
+IsLoad (Load at width) = ⊤
+IsLoad (Store at width stored) = ⊥
 
 -- the bytes after these accesses, one after another
 abbrev pub bytes_after : Span → List Access → List ℕ → List ℕ
@@ -85,12 +90,13 @@ EndsTrace start mid count left (Space at order free) last = IsNextRefused start 
 EndsTrace start mid count left OutFault last = last ≡ mid
 EndsTrace start mid count left end last = ⊥
 
--- The output failed at the line of the last access, and took a front of it behind the lines before.
+-- The last access is a load. The output failed at its line, and took a front of it behind the lines before.
 pub record FailsAtLine (span : Span) (all : List Access) (made : ℕ) (out : Stream) : Type 0 where
   pub before : ℕ
   pub last : made ≡ suc before
   pub access : Access
   pub is : slice_get all before ≡ Some access
+  pub load : IsLoad access
   pub taken : ℕ
   pub wrote : Appends out.before out.after (printed_by span (take before all) (zeros span)
       ++ take taken (printed access (value_of span access (bytes_after span (take before all) (zeros span)))))
@@ -163,9 +169,10 @@ pub record TakesTurn (beat : Beat) (old : State) (access : Access) (tail : List 
   pub input : IsUntouched streams.input
   pub faults : streams.output.faults_before ≤ streams.output.faults_now
 
--- The access was made, and the output failed at what is printed of it.
+-- The load was made, and the output failed at its line.
 pub record IsUntaken (old : State) (access : Access) (out : Stream) (end : End) (new : State) : Type 0 where
   pub end_is : end ≡ OutFault
+  pub load : IsLoad access
   pub value : ℕ
   pub made : AccessBeats old access (Ok value) new
   pub fails : FailsToTake out (printed access (value_of old.memory.span access old.guest.hart.bytes))

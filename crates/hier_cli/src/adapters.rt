@@ -12,9 +12,6 @@ use std::io::{Read, Write};
 use std::rt::Files;
 use std::{fs, io};
 
-/// The bytes that are asked of a file at a time.
-const CHUNK: usize = 65_536;
-
 /// The most bytes that a stream's source holds back.
 const ROOM: usize = 64;
 
@@ -178,7 +175,7 @@ impl<R: Files> Shelf for FileShelf<R> {
 
     fn load(&mut self, alloc: Global, name: &str, limit: u64) -> Result<Vec<u8>, ShelfFault> {
         let result = match fs::open(&self.files, name) {
-            Ok(mut file) => read_up_to(alloc, &mut file, limit),
+            Ok(file) => read_up_to(alloc, file, limit),
             Err(_) => Err(ShelfFault::Failed),
         };
         if matches!(&result, Err(ShelfFault::Failed)) {
@@ -188,25 +185,17 @@ impl<R: Files> Shelf for FileShelf<R> {
     }
 }
 
-/// All bytes that a reader has left, if there are at most so many.
-fn read_up_to<R: Read>(alloc: Global, reader: &mut R, limit: u64) -> Result<Vec<u8>, ShelfFault>
+/// All bytes that a reader gives, if there are at most so many.
+fn read_up_to<R: Read + Drop>(alloc: Global, reader: R, limit: u64) -> Result<Vec<u8>, ShelfFault>
     ensures bounded { IfOk result (λ file. length file.items ≤ limit) }
-    ensures whole { IfOk result (λ file. IfSome (R.remaining reader.old) (λ all. file.items ≡ all)) }
-    ensures too_long { IsErrOf result ShelfFault.TooLong → IfSome (R.remaining reader.old) (λ all. limit < length all) }
+    ensures whole { IfOk result (λ file. IfSome (R.remaining reader) (λ all. file.items ≡ all)) }
+    ensures too_long { IsErrOf result ShelfFault.TooLong → IfSome (R.remaining reader) (λ all. limit < length all) }
 {
     let mut bytes = Vec::new(alloc);
-    let mut chunk = [0; CHUNK];
-    loop {
-        let count = match reader.read(&mut chunk) {
-            Ok(count) => count,
-            Err(_) => return Err(ShelfFault::Failed),
-        };
-        if count == 0 {
-            return Ok(bytes);
-        }
-        if count as u64 > limit - bytes.len() as u64 {
-            return Err(ShelfFault::TooLong);
-        }
-        bytes.extend_from_slice(&chunk[..count])?;
+    match reader.take(limit.saturating_add(1)).read_to_end(&mut bytes) {
+        Ok(_) if bytes.len() as u64 > limit => Err(ShelfFault::TooLong),
+        Ok(_) => Ok(bytes),
+        Err(error) if error.kind() == io::ErrorKind::OutOfMemory => Err(ShelfFault::NoMemory),
+        Err(_) => Err(ShelfFault::Failed),
     }
 }

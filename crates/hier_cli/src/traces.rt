@@ -13,7 +13,7 @@ ghost use Rattle.trace_reader.specs.Rows.{numbered_rows};
 ghost use Rattle.trace_reader.specs.Trace.{accesses_of, first_fault};
 ghost use Rattle.hier_machine.specs.Start.{StartsEmpty};
 ghost use Rattle.hier_cli.specs.Notices.{IsTellable};
-ghost use Rattle.hier_cli.specs.Traces.{EndsTraceFile, FailsAtAccess, IsFaultless, MakesAccess, MakesAll, TakesTurn, accesses_left, printed, with_next};
+ghost use Rattle.hier_cli.specs.Traces.{EndsTraceFile, FailsAtAccess, IsFaultless, IsLoad, MakesAccess, MakesAll, TakesTurn, accesses_left, printed, with_next};
 
 use crate::notice::Notice;
 use hier_machine::Machine;
@@ -142,6 +142,7 @@ fn print_access<O: Sink>(access: &Access, value: u32, out: &mut O) -> Result<(),
     requires { width_of access.now ≤ 4 }
     ensures ok { OnOk result (Appends (O.written out.old) (O.written out.new) (printed access.now value)) }
     ensures err { OnErr result (AppendsFront (O.written out.old) (O.written out.new) (printed access.now value)) }
+    ensures load { OnErr result (IsLoad access.now) }
     ensures cause { HasCause (O.faults out.old) (O.faults out.new) result }
 {
     match *access {
