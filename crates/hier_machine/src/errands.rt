@@ -1,5 +1,5 @@
 // Work on the layers below the first level.
-ghost use Rattle.std.specs.Prelude.{◌≡◌, IfErr, OnOk};
+ghost use Rattle.std.specs.Prelude.{◌≡◌, IfErr, IsOk, OnOk};
 ghost use Rattle.hier_types.specs.Settings.{AreWithinRules};
 ghost use Rattle.page_store.specs.Store.{fresh};
 ghost use Rattle.recency.specs.Levels.{KeepsUnder};
@@ -81,7 +81,9 @@ pub(crate) struct FlushSecond {
 
 impl FlushSecond {
     /// The errand before it is done.
-    pub fn new() -> Self {
+    pub fn new() -> Self
+        ensures { IsOk result.answer }
+    {
         FlushSecond { answer: Ok(()) }
     }
 }
