@@ -1,5 +1,6 @@
 use super::*;
 use hier_types::{Codec, Line, Totals};
+use std::alloc::Global;
 use std::test::Fail;
 
 // A line that no slot holds: word i is 01234567 hexadecimal, i + 1 times.
@@ -17,16 +18,20 @@ fn plain() -> Line {
     line
 }
 
-// 64 pages of zeros, with as many plain lines at the beginning of each as its number says.
-fn pages() -> [u8; 262_144] {
-    let mut bytes = [0; 262_144];
-    for page in 0..64usize {
-        for line in 0..page {
-            let first = 4096 * page + 64 * line;
-            bytes[first..first + 64].copy_from_slice(&plain());
+/// The pages that are measured at once.
+const PAGES: usize = 4096;
+
+// Pages of zeros, with plain lines at the beginning of each: as many as its number modulo 64.
+fn pages(alloc: Global) -> Result<Vec<u8>, Fail> {
+    let plain = plain();
+    let mut bytes = Vec::new(alloc);
+    for page in 0..PAGES {
+        for line in 0..64usize {
+            let line = if line < page % 64 { &plain } else { &[0; 64] };
+            bytes.extend_from_slice(line)?;
         }
     }
-    bytes
+    Ok(bytes)
 }
 
 fn plus(a: Totals, b: Totals) -> Totals {
@@ -72,9 +77,12 @@ fn three_plain_lines(rt: HostRuntime) {
 
 #[test]
 fn many_pages_are_the_sum_of_single_ones(rt: HostRuntime) -> Result<(), Fail> {
-    let bytes = pages();
+    let bytes = pages(rt.alloc())?;
+    if bytes.len() != 4096 * PAGES {
+        return Err("not whole pages".into());
+    }
     let mut sum = Totals::default();
-    for page in 0..64usize {
+    for page in 0..PAGES {
         let one = survey(
             &rt,
             rt.alloc(),
@@ -86,14 +94,14 @@ fn many_pages_are_the_sum_of_single_ones(rt: HostRuntime) -> Result<(), Fail> {
     let whole = survey(&rt, rt.alloc(), Codec::Bdi, &bytes);
     assert_eq!(rt; whole, Ok(sum));
     let expected = Totals {
-        zero: 1,
-        c512: 3,
-        c1024: 8,
-        c2048: 16,
-        c4096: 36,
-        exceptions: 378,
-        encoded: 174_348,
-        blocks: 189_952,
+        zero: 64,
+        c512: 64 * 3,
+        c1024: 64 * 8,
+        c2048: 64 * 16,
+        c4096: 64 * 36,
+        exceptions: 64 * 378,
+        encoded: 64 * 174_348,
+        blocks: 64 * 189_952,
     };
     assert_eq!(rt; sum, expected);
     Ok(())
