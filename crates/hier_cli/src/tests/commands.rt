@@ -72,23 +72,33 @@ fn notes_that_fail(rt: HostRuntime) -> Result<(), Fail> {
     Ok(())
 }
 
-/// The image is the one page of the program, behind its address.
+/// The image is the one page of the program, behind its address, whether it ran or not.
 #[test]
 fn images(rt: HostRuntime) -> Result<(), Fail> {
     let alloc = rt.alloc();
-    let words = ["image", "a"];
-    let left = run_words(&rt, alloc, &words, &EXIT_THREE, Failing::nowhere(alloc))?;
-    assert_eq!(rt; left.status.end, End::Exit { status: 3 });
-    assert_eq!(rt; left.output.len(), 4100);
-    assert_eq!(rt;
-        &left.output[..8],
-        [0, 0, 1, 0, 0x13, 0x05, 0x30, 0].as_slice()
-    );
-    assert_eq!(rt; &left.output[16..4100], [0; 4084].as_slice());
-    assert_eq!(rt; left.note.as_slice(), b"end exit 3\nretired 3\n".as_slice());
+    let cases: [(&[&str], &str); 2] = [
+        (&["image", "a"], "end exit 3\nretired 3\n"),
+        (&["image", "a", "--budget", "0"], "end budget\nretired 0\n"),
+    ];
+    for (words, note) in cases {
+        let left = run_words(&rt, alloc, words, &EXIT_THREE, Failing::nowhere(alloc))?;
+        assert_eq!(rt; left.output.len(), 4100);
+        assert_eq!(rt;
+            &left.output[..8],
+            [0, 0, 1, 0, 0x13, 0x05, 0x30, 0].as_slice()
+        );
+        assert_eq!(rt; &left.output[16..4100], [0; 4084].as_slice());
+        assert_eq!(rt; left.note.as_slice(), note.as_bytes());
+    }
+    Ok(())
+}
+
+#[test]
+fn images_whose_output_fails(rt: HostRuntime) -> Result<(), Fail> {
+    let alloc = rt.alloc();
     let mut failing = Failing::nowhere(alloc);
     failing.output.push((1, 7))?;
-    let left = run_words(&rt, alloc, &words, &EXIT_THREE, failing)?;
+    let left = run_words(&rt, alloc, &["image", "a"], &EXIT_THREE, failing)?;
     assert_eq!(rt; (left.status.end, left.output.len()), (End::OutFault, 11));
     assert_eq!(rt;
         left.note.as_slice(),
@@ -157,7 +167,7 @@ fn words_that_are_refused(rt: HostRuntime) -> Result<(), Fail> {
     let alloc = rt.alloc();
     let usage = (End::Usage, "end usage: hiersim COMMAND FILE [options]\n");
     let setting = |name| End::Setting { name };
-    let cases: [(&[&str], (End, &str)); 9] = [
+    let cases: [(&[&str], (End, &str)); 10] = [
         (&[], usage),
         (&["run"], usage),
         (&["--help"], usage),
@@ -173,6 +183,10 @@ fn words_that_are_refused(rt: HostRuntime) -> Result<(), Fail> {
         (
             &["run", "a", "--base", "1048574", "--pages", "2"],
             (setting(SettingName::Pages), "end bad setting pages\n"),
+        ),
+        (
+            &["run", "a", "--beats", "mmc"],
+            (setting(SettingName::Beats), "end bad setting beats\n"),
         ),
         (
             &["layout", "a"],
