@@ -2,6 +2,7 @@ use super::*;
 use hier_types::{BytesSink, BytesSource, ListShelf};
 use rv_asm::write_elf;
 use std::alloc::Global;
+use std::process::Abort;
 use std::test::Fail;
 use std::thread::Threads;
 
@@ -67,6 +68,15 @@ struct Left {
     input: Vec<u8>,
     output: Vec<u8>,
     note: Vec<u8>,
+}
+
+impl Left {
+    /// Checks how the program ended, what it printed, and how its note begins.
+    fn check<R: Abort>(&self, rt: &R, end: End, output: &[u8], note: &[u8]) {
+        assert_eq!(*rt; self.status.end, end);
+        assert_eq!(*rt; self.output.as_slice(), output);
+        assert!(*rt; self.note.starts_with(note));
+    }
 }
 
 /// Runs the program on words and a file named `a`, with an input of two bytes.

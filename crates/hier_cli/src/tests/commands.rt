@@ -32,11 +32,9 @@ fn reports(rt: HostRuntime) -> Result<(), Fail> {
     ];
     for (words, note) in cases {
         let left = run_words(&rt, alloc, words, &EXIT_THREE, Failing::nowhere(alloc))?;
-        assert_eq!(rt; left.status.end, End::Exit { status: 3 });
-        assert_eq!(rt; left.status.code, 3);
+        left.check(&rt, End::Exit { status: 3 }, &[], note);
+        assert_eq!(rt; (left.status.code, left.note.len()), (3, note.len()));
         assert_eq!(rt; left.input.as_slice(), [1, 2].as_slice());
-        assert_eq!(rt; left.output.as_slice(), [].as_slice());
-        assert_eq!(rt; left.note.as_slice(), note);
     }
     Ok(())
 }
@@ -112,16 +110,14 @@ fn images_whose_output_fails(rt: HostRuntime) -> Result<(), Fail> {
 fn generated_programs(rt: HostRuntime) -> Result<(), Fail> {
     let alloc = rt.alloc();
     let demo = run_words(&rt, alloc, &["demo", "7"], &[], Failing::nowhere(alloc))?;
-    assert_eq!(rt; demo.status.end, End::Exit { status: 0 });
-    assert_eq!(rt; demo.output.as_slice(), FOLD_OF_SEVEN.as_slice());
-    assert!(rt; demo.note.starts_with(b"end exit 0\nretired 851987\n"));
+    let end = End::Exit { status: 0 };
+    demo.check(&rt, end, &FOLD_OF_SEVEN, b"end exit 0\nretired 851987\n");
     let turns = b"\nturns 60856 60856\n".as_slice();
     assert!(rt; demo.note.windows(turns.len()).any(|part| part == turns));
     let file = run_words(&rt, alloc, &["gen", "7"], &[], Failing::nowhere(alloc))?;
-    assert_eq!(rt; (file.status.end, file.status.code), (End::Done, 0));
-    assert_eq!(rt; file.note.as_slice(), b"end done\n".as_slice());
     let expected = demo_program(alloc, 7).ok().ok_or("no memory")?;
-    assert_eq!(rt; file.output.as_slice(), expected.as_slice());
+    file.check(&rt, End::Done, &expected, b"end done\n");
+    assert_eq!(rt; file.status.code, 0);
     let run = run_on(
         &rt,
         alloc,
@@ -146,9 +142,8 @@ fn surveys(rt: HostRuntime) -> Result<(), Fail> {
     let text =
         b"pages 2\nzero 1\nclasses 1 0 0 0\nexceptions 1\nencoded 190\nblocks 512\nratio 800\n";
     let left = run_on(&rt, alloc, &["survey", "a"], bytes, Failing::nowhere(alloc))?;
-    assert_eq!(rt; (left.status.end, left.status.code), (End::Done, 0));
-    assert_eq!(rt; left.output.as_slice(), text.as_slice());
-    assert_eq!(rt; left.note.as_slice(), b"end done\n".as_slice());
+    left.check(&rt, End::Done, text, b"end done\n");
+    assert_eq!(rt; left.status.code, 0);
     let none = run_on(
         &rt,
         alloc,
@@ -157,7 +152,7 @@ fn surveys(rt: HostRuntime) -> Result<(), Fail> {
         Failing::nowhere(alloc),
     )?;
     let text = b"pages 0\nzero 0\nclasses 0 0 0 0\nexceptions 0\nencoded 0\nblocks 0\nratio 0\n";
-    assert_eq!(rt; none.output.as_slice(), text.as_slice());
+    none.check(&rt, End::Done, text, b"end done\n");
     Ok(())
 }
 
@@ -201,10 +196,9 @@ fn words_that_are_refused(rt: HostRuntime) -> Result<(), Fail> {
     ];
     for (words, (end, note)) in cases {
         let left = run_words(&rt, alloc, words, &EXIT_THREE, Failing::nowhere(alloc))?;
-        assert_eq!(rt; left.status.end, end);
+        left.check(&rt, end, &[], note.as_bytes());
+        assert_eq!(rt; left.note.len(), note.len());
         assert_eq!(rt; left.input.as_slice(), [1, 2].as_slice());
-        assert_eq!(rt; left.output.as_slice(), [].as_slice());
-        assert_eq!(rt; left.note.as_slice(), note.as_bytes());
     }
     Ok(())
 }

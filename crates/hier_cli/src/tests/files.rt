@@ -42,9 +42,8 @@ fn files_that_are_no_programs(rt: HostRuntime) -> Result<(), Fail> {
         let left = run_on(&rt, alloc, &["run", "a"], file, Failing::nowhere(alloc))?;
         let header = None;
         let fault = ImageFault { kind, header };
-        assert_eq!(rt; left.status.end, End::BadImage { fault });
+        left.check(&rt, End::BadImage { fault }, &[], b"end bad image ");
         assert_eq!(rt; left.status.code, 204);
-        assert_eq!(rt; left.output.as_slice(), [].as_slice());
     }
     Ok(())
 }
@@ -54,8 +53,7 @@ fn a_linked_program_runs(rt: HostRuntime) -> Result<(), Fail> {
     let alloc = rt.alloc();
     let file = Vec::from_slice(alloc, &LINKED_HELLO)?;
     let left = run_on(&rt, alloc, &["run", "a"], file, Failing::nowhere(alloc))?;
-    assert_eq!(rt; left.status.end, End::Exit { status: 0 });
-    assert_eq!(rt; left.output.as_slice(), b"hello\n".as_slice());
-    assert!(rt; left.note.starts_with(b"end exit 0\nretired 26\n"));
+    let note = b"end exit 0\nretired 26\n";
+    left.check(&rt, End::Exit { status: 0 }, b"hello\n", note);
     Ok(())
 }

@@ -19,9 +19,8 @@ const COPY_A_LINE: [u32; 10] = [
 fn input_reaches_the_output(rt: HostRuntime) -> Result<(), Fail> {
     let alloc = rt.alloc();
     let left = run_program(&rt, alloc, &COPY_A_LINE, Failing::nowhere(alloc))?;
-    assert_eq!(rt; left.status.end, End::Exit { status: 2 });
-    assert_eq!(rt; left.input.as_slice(), [].as_slice());
-    assert_eq!(rt; left.output.as_slice(), [1, 2].as_slice());
+    left.check(&rt, End::Exit { status: 2 }, &[1, 2], b"end exit 2\n");
+    assert!(rt; left.input.is_empty());
     Ok(())
 }
 
@@ -31,15 +30,14 @@ fn streams_that_fail(rt: HostRuntime) -> Result<(), Fail> {
     let mut failing = Failing::nowhere(alloc);
     failing.input.push(0)?;
     let left = run_program(&rt, alloc, &COPY_A_LINE, failing)?;
-    assert_eq!(rt; (left.status.end, left.status.code), (End::InFault, 210));
-    assert_eq!(rt; left.input.as_slice(), [1, 2].as_slice());
-    assert!(rt; left.note.starts_with(b"end input failed\nretired 3\n"));
+    left.check(&rt, End::InFault, &[], b"end input failed\nretired 3\n");
+    assert_eq!(rt; (left.status.code, left.input.len()), (210, 2));
     let mut failing = Failing::nowhere(alloc);
     failing.output.push((1, 2))?;
     let left = run_program(&rt, alloc, &WRITE_ABC_TWICE, failing)?;
-    assert_eq!(rt; (left.status.end, left.status.code), (End::OutFault, 211));
-    assert_eq!(rt; left.output.as_slice(), b"abcab".as_slice());
-    assert!(rt; left.note.starts_with(b"end output failed\nretired 13\n"));
+    let note = b"end output failed\nretired 13\n";
+    left.check(&rt, End::OutFault, b"abcab", note);
+    assert_eq!(rt; left.status.code, 211);
     Ok(())
 }
 
@@ -68,12 +66,10 @@ fn flat_memory_gives_the_same(rt: HostRuntime) -> Result<(), Fail> {
     ];
     for (program, status, note) in programs {
         let flat = run_words(&rt, alloc, &["flat", "a"], program, Failing::nowhere(alloc))?;
-        assert_eq!(rt; flat.status.end, End::Exit { status });
-        assert_eq!(rt; flat.note.as_slice(), note);
         let left = run_program(&rt, alloc, program, Failing::nowhere(alloc))?;
-        assert_eq!(rt; left.status.end, flat.status.end);
-        assert_eq!(rt; left.output.as_slice(), flat.output.as_slice());
-        assert!(rt; left.note.starts_with(note));
+        left.check(&rt, End::Exit { status }, &flat.output, note);
+        flat.check(&rt, End::Exit { status }, &left.output, note);
+        assert_eq!(rt; flat.note.len(), note.len());
     }
     Ok(())
 }
@@ -89,8 +85,7 @@ fn budgets_end_runs(rt: HostRuntime) -> Result<(), Fail> {
     ] {
         let words = ["run", "a", "--budget", budget];
         let left = run_words(&rt, alloc, &words, &EXIT_THREE, Failing::nowhere(alloc))?;
-        assert_eq!(rt; left.status.end, end);
-        assert!(rt; left.note.starts_with(note));
+        left.check(&rt, end, &[], note);
     }
     Ok(())
 }

@@ -81,10 +81,8 @@ fn values_of_loads(rt: HostRuntime) -> Result<(), Fail> {
         ),
     ] {
         let left = trace(&rt, alloc, rows, "16", &[], Failing::nowhere(alloc))?;
-        assert_eq!(rt; left.status.end, end);
+        left.check(&rt, end, output.as_bytes(), note.as_bytes());
         assert_eq!(rt; left.input.as_slice(), [1, 2].as_slice());
-        assert_eq!(rt; left.output.as_slice(), output.as_bytes());
-        assert!(rt; left.note.starts_with(note.as_bytes()));
     }
     Ok(())
 }
@@ -115,8 +113,7 @@ fn pages_without_room_end_traces(rt: HostRuntime) -> Result<(), Fail> {
         &SMALL_CACHES,
         Failing::nowhere(alloc),
     )?;
-    assert_eq!(rt; left.status.end, End::Done);
-    assert!(rt; left.note.starts_with(b"end done\nretired 12\n"));
+    left.check(&rt, End::Done, &[], b"end done\nretired 12\n");
     Ok(())
 }
 
@@ -131,12 +128,9 @@ fn lines_come_back(rt: HostRuntime) -> Result<(), Fail> {
         &SMALL_CACHES,
         Failing::nowhere(alloc),
     )?;
-    assert_eq!(rt; left.status.end, End::Done);
-    assert_eq!(rt;
-        left.output.as_slice(),
-        b"00000000\n00000000\n00000000\n00000001\n00000000\n".as_slice()
-    );
-    assert_eq!(rt; left.note.as_slice(), NOTE_OUT_AND_BACK.as_bytes());
+    let output = b"00000000\n00000000\n00000000\n00000001\n00000000\n";
+    left.check(&rt, End::Done, output, NOTE_OUT_AND_BACK.as_bytes());
+    assert_eq!(rt; left.note.len(), NOTE_OUT_AND_BACK.len());
     Ok(())
 }
 
@@ -166,9 +160,7 @@ fn budgets_end_traces(rt: HostRuntime) -> Result<(), Fail> {
             &options,
             Failing::nowhere(alloc),
         )?;
-        assert_eq!(rt; left.status.end, end);
-        assert_eq!(rt; left.output.as_slice(), output.as_bytes());
-        assert!(rt; left.note.starts_with(note.as_bytes()));
+        left.check(&rt, end, output.as_bytes(), note.as_bytes());
     }
     Ok(())
 }
@@ -179,8 +171,8 @@ fn outputs_that_fail_end_traces(rt: HostRuntime) -> Result<(), Fail> {
     let mut failing = Failing::nowhere(alloc);
     failing.output.push((1, 1))?;
     let left = trace(&rt, alloc, PARTS_OF_A_WORD, "16", &[], failing)?;
-    assert_eq!(rt; (left.status.end, left.status.code), (End::OutFault, 211));
-    assert_eq!(rt; left.output.as_slice(), b"5678\n1".as_slice());
-    assert!(rt; left.note.starts_with(b"end output failed\nretired 3\n"));
+    let note = b"end output failed\nretired 3\n";
+    left.check(&rt, End::OutFault, b"5678\n1", note);
+    assert_eq!(rt; left.status.code, 211);
     Ok(())
 }
