@@ -1,5 +1,5 @@
 -- What stands outside of the program, and the file that its words name.
-use Rattle.std.specs.Prelude.{◌≡◌, ◌⊎◌, ℕ, ◌<◌, ◌≤◌, List, length, Option, Some, MatchOption, IfSome}
+use Rattle.std.specs.Prelude.{◌≡◌, ◌⊎◌, ⊤, ℕ, ◌<◌, ◌≤◌, List, length, Option, Some, None, MatchOption, IfSome}
 use Rattle.hier_types.specs.Causes.{Rose}
 use Rattle.hier_types.specs.Outside.{file_of}
 use Rattle.sys_shim.specs.Streams.{AreUntouched, Streams}
@@ -28,6 +28,11 @@ pub record Outside : Type 0 where
 
 abbrev pub outside : ShelfUse → Streams → Outside
 outside shelf streams = record { shelf = shelf; streams = streams }
+
+-- what a file that was opened by its name has to give, where the opener tells its files
+abbrev pub Opens : Option (List (List ℕ × List ℕ)) → List ℕ → Option (List ℕ) → Type 0
+Opens None name left = ⊤
+Opens (Some all) name left = (bytes : List ℕ) × (file_of all name ≡ Some bytes) × (left ≡ Some bytes)
 
 -- these are the bytes of the named file, where the shelf tells them
 abbrev pub IsFile : Option (List (List ℕ × List ℕ)) → List ℕ → List ℕ → Type 0

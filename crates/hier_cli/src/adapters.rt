@@ -1,9 +1,10 @@
 // The real file and streams. A source and a sink tell what their streams tell. The streams and files of the system
 // tell none of their bytes: what the system gives or takes no contract can say.
-ghost use Rattle.std.specs.Prelude.{◌≡◌, ◌<◌, ◌≤◌, [], None, IfOk, IfSome, IsErrOf, IsOk, OnOk, OnErr, length, min, take, drop};
+ghost use Rattle.std.specs.Prelude.{◌≡◌, ◌<◌, ◌≤◌, ℕ, List, Option, Some, [], None, IfOk, IfSome, IsErrOf, IsOk, OnOk, OnErr, length, min, take, drop};
 ghost use Rattle.std.specs.Io.KnownBytes.{Appends, IsAtEnd, Keeps, prepend_known};
 ghost use Rattle.hier_types.specs.Causes.{HasCause};
-ghost use Rattle.hier_types.specs.Outside.{AppendsFront, Takes};
+ghost use Rattle.hier_types.specs.Outside.{AppendsFront, Takes, file_of};
+ghost use Rattle.hier_cli.specs.Files.{Opens};
 
 use arrayvec::ArrayVec;
 use hier_types::{Failed, Shelf, ShelfFault, Sink, Source};
@@ -151,38 +152,86 @@ fn write_and_flush<W: Write>(stream: &mut W, bytes: &[u8]) -> Result<(), Failed>
     }
 }
 
-/// The files of the system.
-#[derive(Drop)]
-pub struct FileShelf<R: Files> {
-    files: R,
-    faults: u64,
+/// What opens files by their names. It tells them, or it does not.
+pub trait Opener {
+    /// A file that is read.
+    type File: Read + Drop;
+
+    /// The names and bytes of its files, where it tells them.
+    ghost files: { Self → Option (List (List ℕ × List ℕ)) } = { λ _. None };
+
+    /// The file of a name, from its beginning.
+    fn open(&self, name: &str) -> Result<Self::File, Failed>
+        ensures opened { IfOk result (λ file. Opens (files self.now) name.now (Self.File.remaining file)) };
 }
 
-impl<R: Files> FileShelf<R> {
-    /// A shelf that has not failed.
-    pub fn new(files: R) -> Self
-        ensures files { result.files ≡ files }
-        ensures faults { result.faults ≡ 0 }
-    {
-        FileShelf { files, faults: 0 }
+/// The files of the system.
+#[derive(Drop)]
+pub struct SystemFiles<R: Files> {
+    files: R,
+}
+
+impl<R: Files> Opener for SystemFiles<R> {
+    type File = R::File;
+
+    fn open(&self, name: &str) -> Result<R::File, Failed> {
+        match fs::open(&self.files, name) {
+            Ok(file) => Ok(file),
+            Err(_) => Err(Failed),
+        }
     }
 }
 
-impl<R: Files> Shelf for FileShelf<R> {
-    ghost files = { λ _. None };
+/// Files that are opened and read when they are asked for.
+#[derive(Drop)]
+pub struct FileShelf<O: Opener> {
+    opener: O,
+    faults: u64,
+}
+
+impl<R: Files> FileShelf<SystemFiles<R>> {
+    /// The files of the system, on a shelf that has not failed.
+    pub fn new(files: R) -> Self
+        ensures files { result.opener.files ≡ files }
+        ensures faults { result.faults ≡ 0 }
+    {
+        FileShelf {
+            opener: SystemFiles { files },
+            faults: 0,
+        }
+    }
+}
+
+impl<O: Opener> Shelf for FileShelf<O> {
+    ghost files = { λ s. O.files s.opener };
 
     ghost faults = { λ s. s.faults };
 
     fn load(&mut self, alloc: Global, name: &str, limit: u64) -> Result<Vec<u8>, ShelfFault> {
-        let result = match fs::open(&self.files, name) {
-            Ok(file) => read_up_to(alloc, file, limit),
-            Err(_) => Err(ShelfFault::Failed),
-        };
+        let result = load_from(alloc, &self.opener, name, limit);
         if matches!(&result, Err(ShelfFault::Failed)) {
             self.faults = self.faults.saturating_add(1);
         }
         result
     }
+}
+
+/// All bytes of the file of a name, if there are at most so many.
+fn load_from<O: Opener>(
+    alloc: Global,
+    opener: &O,
+    name: &str,
+    limit: u64,
+) -> Result<Vec<u8>, ShelfFault>
+    ensures bounded { IfOk result (λ file. length file.items ≤ limit) }
+    ensures found { IfSome (O.files opener.now) (λ all. IfOk result (λ file. file_of all name.now ≡ Some file.items)) }
+    ensures too_long { IsErrOf result ShelfFault.TooLong → IfSome (O.files opener.now) (λ all. (bytes : List ℕ) × (file_of all name.now ≡ Some bytes) × (limit < length bytes)) }
+{
+    let file = match opener.open(name) {
+        Ok(file) => file,
+        Err(Failed) => return Err(ShelfFault::Failed),
+    };
+    read_up_to(alloc, file, limit)
 }
 
 /// All bytes that a reader gives, if there are at most so many.
