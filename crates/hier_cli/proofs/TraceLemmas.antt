@@ -24,7 +24,8 @@ use Rattle.hier_machine.proofs.RunLemmas.{stays_join, turned}
 use Rattle.hier_machine.proofs.WordLemmas.{gap-le, work_left, work_shrinks}
 use Rattle.run_report.specs.declared.end.End.{End}
 use Rattle.run_report.specs.declared.end.End.TheVariants.{Space, OutFault}
-use Rattle.hier_cli.specs.Traces.{FailsAtAccess, IsRefused, IsUntaken, MakesAll, TakesTurn, TracePassed, bytes_after, printed, printed_by, zeros}
+use Rattle.hier_cli.specs.StackTraces.{TracePassed}
+use Rattle.hier_cli.specs.Traces.{FailsAtAccess, IsRefused, IsUntaken, MakesAll, TakesTurn, TraceBeat, bytes_after, printed, printed_by, zeros}
 
 -- the next access behind so many
 drop_next : (all : List Access) (made : ℕ) (access : Access) (rest : List Access) → drop made all ≡ access ∷ rest → drop (suc made) all ≡ rest
@@ -64,7 +65,7 @@ printed_next span (a ∷ all) (suc made) access rest bytes e =
 
 -- From its start a trace has come to the state now, by so many beats, and these accesses are left.
 pub record TraceSoFar (span : Span) (start now : State) (all left : List Access) (count : ℕ) (streams : Streams) : Type 0 where
-  pub passed : TracePassed start all count now left
+  pub passed : TracePassed TraceBeat start.beats start all count now left
   pub stays : Stays start now
   pub running : now.ended ≡ false
   pub memory : now.guest.hart.bytes ≡ bytes_after span (take now.guest.retired all) (zeros span)
@@ -98,7 +99,7 @@ appends_on before mid from after text more h meets k = Appends-trans before mid 
 
 -- a turn that makes no access
 quiet_turn : (span : Span) (start a b : State) (all left rest : List Access) (count : ℕ) (beat : Beat) (first second : Streams) (mover cleaner : ℕ) → TraceSoFar span start a all left count first → Meets first second
-    → TracePassed start all (suc count) b rest → b ≡ turned a mover cleaner → rest ≡ left → IsUntouched second.output → IsUntouched second.input → second.output.faults_before ≤ second.output.faults_now
+    → TracePassed TraceBeat start.beats start all (suc count) b rest → b ≡ turned a mover cleaner → rest ≡ left → IsUntouched second.output → IsUntouched second.input → second.output.faults_before ≤ second.output.faults_now
     → TraceSoFar span start b all rest (suc count) (over first second)
 quiet_turn span start a b all left rest count beat first second mover cleaner so meets passed same kept output input faults =
     let guest_is : b.guest ≡ a.guest = ap (λ (s : State). s.guest) same in
@@ -137,7 +138,7 @@ rest_made span start a b all rest access count first so does =
 
 -- a turn of the hart
 made_turn : (span : Span) (start a b : State) (all rest : List Access) (count : ℕ) (access : Access) (value : ℕ) (first second : Streams) → start.memory.span ≡ span → TraceSoFar span start a all (access ∷ rest) count first → Meets first second
-    → TracePassed start all (suc count) b rest → a.guest.retired < start.budget → AccessBeats a access (Ok value) b
+    → TracePassed TraceBeat start.beats start all (suc count) b rest → a.guest.retired < start.budget → AccessBeats a access (Ok value) b
     → Appends second.output.before second.output.after (printed access (value_of a.memory.span access a.guest.hart.bytes)) → IsUntouched second.input → second.output.faults_before ≤ second.output.faults_now
     → TraceSoFar span start b all rest (suc count) (over first second)
 made_turn span start a b all rest count access value first second at so meets passed lt beats output input faults =
@@ -170,7 +171,7 @@ trace_on Hart span start a b all tail left count access first second at so meets
     let same : access ≡ made = cc in
     let kept : access ∷ tail ≡ access ∷ left = next ∙ ap (λ (x : Access). x ∷ left) (sym same) in
     made_turn span start a b all left count access value first second at (subst (λ l. TraceSoFar span start a all l count first) kept so) meets (a, access ∷ tail, Hart, so.passed, is, turn.beats) lt
-    (subst (λ (x : Access). AccessBeats a x (Ok value) b) (sym same) beats) turn.output turn.input turn.faults
+    (subst (λ (x : Access). AccessBeats a x (Ok value) b) (sym same) beats.beats) turn.output turn.input turn.faults
 trace_on Mover span start a b all tail left count access first second at so meets lt is turn =
     quiet_turn span start a b all (access ∷ tail) left count Mover first second (raised a.mover_turns) a.cleaner_turns so meets (a, access ∷ tail, Mover, so.passed, is, turn.beats) turn.beats.1.1 turn.beats.2 turn.output turn.input turn.faults
 trace_on Cleaner span start a b all tail left count access first second at so meets lt is turn =
@@ -187,7 +188,7 @@ trace_space : (span : Span) (start a b : State) (all tail : List Access) (count 
     → a.guest.retired < start.budget → IsBeat start.beats count Hart → IsRefused a access (Space at order free) b → IsUntouched second.output → IsUntouched second.input
     → MakesAll span start all (over first second) (Space at order free) b
 trace_space span start a b all tail count access at order free first second so meets lt is refused output input =
-    let guest_is : b.guest ≡ a.guest = refused.refused.does in
+    let guest_is : b.guest ≡ a.guest = refused.refused.beats.does in
     let retired : b.guest.retired ≡ a.guest.retired = ap (λ (g : guest.State). g.retired) guest_is in
     record {
       count = count;
@@ -209,7 +210,7 @@ trace_untaken : (span : Span) (start a b : State) (all tail : List Access) (coun
     → MakesAll span start all (over first second) OutFault b
 trace_untaken span start a b all tail count access end first second at so meets lt is untaken input =
     let span_is : a.memory.span ≡ span = so.stays.span ∙ at in
-    let does : b.guest ≡ after_access span access a.guest = subst (λ (s : Span). b.guest ≡ after_access s access a.guest) span_is untaken.made.does.1 in
+    let does : b.guest ≡ after_access span access a.guest = subst (λ (s : Span). b.guest ≡ after_access s access a.guest) span_is untaken.made.beats.does.1 in
     let retired = retired_next span a b access does in
     let line : printed access (value_of a.memory.span access a.guest.hart.bytes) ≡ printed access (value_of span access (bytes_after span (take a.guest.retired all) (zeros span))) =
     ap (λ (s : Span). printed access (value_of s access a.guest.hart.bytes)) span_is ∙ ap (λ (l : List ℕ). printed access (value_of span access l)) so.memory in
@@ -265,6 +266,6 @@ hart_shrinks a b place next access value word lt beats =
 -- each beat brings the end nearer
 pub turn_shrinks : (beat : Beat) (a b : State) (access : Access) (tail left : List Access) (s : Streams) (place count : ℕ) → IsBeatWord a.beats → slice_get a.beats place ≡ Some beat → count ≡ length a.beats → place < count → a.guest.retired < a.budget
     → TakesTurn beat a access tail b left s → work_left b ((place + 1) % count) < work_left a place
-turn_shrinks Hart a b access tail left s place count word at len inside lt turn = hart_shrinks a b place ((place + 1) % count) turn.beats.0 turn.beats.1 word lt turn.beats.3
+turn_shrinks Hart a b access tail left s place count word at len inside lt turn = hart_shrinks a b place ((place + 1) % count) turn.beats.0 turn.beats.1 word lt turn.beats.3.beats
 turn_shrinks Mover a b access tail left s place count word at len inside lt turn = work_shrinks Mover a b turn.beats.0 place count word at len inside lt turn.beats.1
 turn_shrinks Cleaner a b access tail left s place count word at len inside lt turn = work_shrinks Cleaner a b turn.beats.0 place count word at len inside lt turn.beats.1

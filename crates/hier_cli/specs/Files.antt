@@ -29,14 +29,18 @@ pub record Outside : Type 0 where
 abbrev pub outside : ShelfUse → Streams → Outside
 outside shelf streams = record { shelf = shelf; streams = streams }
 
--- what a file that was opened by its name has to give, where the opener tells its files
-abbrev pub Opens : Option (List (List ℕ × List ℕ)) → List ℕ → Option (List ℕ) → Type 0
-Opens None name left = ⊤
-Opens (Some all) name left = (bytes : List ℕ) × (file_of all name ≡ Some bytes) × (left ≡ Some bytes)
-
--- these are the bytes of the named file, where the shelf tells them
+-- these are the bytes of the named file, where the files are told
 abbrev pub IsFile : Option (List (List ℕ × List ℕ)) → List ℕ → List ℕ → Type 0
 IsFile files name bytes = IfSome files (λ all. file_of all name ≡ Some bytes)
+
+-- the named file, where the files are told, has more bytes than so many
+abbrev pub IsLongerThan : ℕ → Option (List (List ℕ × List ℕ)) → List ℕ → Type 0
+IsLongerThan limit files name = IfSome files (λ all. (bytes : List ℕ) × (file_of all name ≡ Some bytes) × (limit < length bytes))
+
+-- what a file that was opened by its name has to give, where the files are told: all its bytes
+abbrev pub Opens : Option (List (List ℕ × List ℕ)) → List ℕ → Option (List ℕ) → Type 0
+Opens None name left = ⊤
+Opens (Some all) name left = (bytes : List ℕ) × IsFile (Some all) name bytes × (left ≡ Some bytes)
 
 -- the shelf gave these bytes for the name, and there are not too many
 abbrev pub IsLoaded : ShelfUse → List ℕ → List ℕ → Type 0
@@ -46,9 +50,9 @@ IsLoaded shelf name file = IsFile shelf.files name file × (length file ≤ file
 abbrev pub FailsToLoad : ShelfUse → List ℕ → Type 0
 FailsToLoad shelf name = MatchOption shelf.files (Rose shelf.faults_before shelf.faults_now) (λ files. MatchOption (file_of files name) (Unit {0}) (λ _. Rose shelf.faults_before shelf.faults_now))
 
--- the named file, where the shelf tells it, has more bytes than the limit
+-- the named file has more bytes than a file may have
 abbrev pub IsTooLong : ShelfUse → List ℕ → Type 0
-IsTooLong shelf name = IfSome shelf.files (λ files. (bytes : List ℕ) × (file_of files name ≡ Some bytes) × (file_limit < length bytes))
+IsTooLong shelf name = IsLongerThan file_limit shelf.files name
 
 -- why no file was loaded
 abbrev pub IsLoadEnd : ShelfUse → List ℕ → End → Type 0

@@ -1,5 +1,5 @@
 -- Runs of a trace: its accesses, one after another, over the machine's memory.
-use Rattle.std.specs.Prelude.{◌≡◌, ◌≢◌, ⊤, ◌⊎◌, ℕ, zero, suc, ◌-◌, ◌*◌, ◌<◌, ◌≤◌, List, [], ◌∷◌, ◌++◌, replicate, take, drop, slice_get, Option, Some, None, Ok, Err}
+use Rattle.std.specs.Prelude.{◌≡◌, ◌≢◌, ⊤, ◌⊎◌, ℕ, suc, ◌-◌, ◌*◌, ◌<◌, ◌≤◌, List, [], ◌∷◌, ◌++◌, length, replicate, take, drop, slice_get, Option, Some, None, Result, Ok, Err}
 use Rattle.std.specs.Io.KnownBytes.{Appends}
 use Rattle.hier_types.specs.Causes.{Rose}
 use Rattle.hier_types.specs.Span.{Span}
@@ -20,6 +20,7 @@ use Rattle.hier_machine.specs.Memory.{store_of}
 use Rattle.hier_machine.specs.Reports.{Reports}
 use Rattle.hier_machine.specs.Runs.{IsBeat}
 use Rattle.hier_machine.specs.Spaces.{IsSpaceEnd}
+use Rattle.hier_machine.specs.StackRun.{StackAccess, stack_of}
 use Rattle.hier_machine.specs.Start.{StartsEmpty}
 use Rattle.hier_machine.specs.State.{State}
 use Rattle.run_report.specs.Texts.{address, line_feed}
@@ -28,6 +29,7 @@ use Rattle.run_report.specs.declared.end.End.TheVariants.{Done, BadTrace, Budget
 use Rattle.run_report.specs.declared.report.Report.{Report}
 use Rattle.hier_cli.specs.declared.notice.Notice.{Notice}
 use Rattle.hier_cli.specs.declared.notice.Notice.TheVariants.{Ended, Reported}
+use Rattle.hier_cli.specs.StackTraces.{StackTrace, TracePassed}
 
 -- what is printed of an access: the value of a load in two hexadecimal digits for each of its bytes, in a line of its own
 abbrev pub printed : Access → ℕ → List ℕ
@@ -53,22 +55,22 @@ printed_by span (access ∷ accesses) bytes = printed access (value_of span acce
 abbrev pub zeros : Span → List ℕ
 zeros span = replicate (4096 * span.pages) 0
 
+-- An access is tried: it is made or refused by both levels and the store, and so by the lists of both levels above the
+-- store's contents.
+pub record TriesAccess (old : State) (access : Access) (result : Result ℕ NoSpace) (new : State) : Type 0 where
+  pub beats : AccessBeats old access result new
+  pub stack : StackAccess (store_of old.memory).codec (length (store_of old.memory).used) (stack_of old) access result (stack_of new)
+
 -- a beat of the hart makes the next access; any other leaves the accesses
 abbrev pub TraceBeat : Beat → State → List Access → State → List Access → Type 0
-TraceBeat Hart old left new rest = (access : Access) × (value : ℕ) × (left ≡ access ∷ rest) × AccessBeats old access (Ok value) new
+TraceBeat Hart old left new rest = (access : Access) × (value : ℕ) × (left ≡ access ∷ rest) × TriesAccess old access (Ok value) new
 TraceBeat Mover old left new rest = (streams : Streams) × Beats Mover old None new streams × (rest ≡ left)
 TraceBeat Cleaner old left new rest = (streams : Streams) × Beats Cleaner old None new streams × (rest ≡ left)
-
--- so many beats of the word were passed from the start, and these accesses are left
-abbrev pub TracePassed : State → List Access → ℕ → State → List Access → Type 0
-TracePassed start all zero now left = (now ≡ start) × (left ≡ all)
-TracePassed start all (suc count) now left =
-    (mid : State) × (before : List Access) × (beat : Beat) × TracePassed start all count mid before × IsBeat start.beats count beat × TraceBeat beat mid before now left
 
 -- An access is refused a block. Every other page is then at its plan, and no free place holds the refused one.
 pub record IsRefused (old : State) (access : Access) (end : End) (new : State) : Type 0 where
   pub refusal : NoSpace
-  pub refused : AccessBeats old access (Err refusal) new
+  pub refused : TriesAccess old access (Err refusal) new
   pub told : IsSpaceEnd new.memory refusal end
   pub crowded : Crowded (store_of new.memory) refusal
 
@@ -112,7 +114,7 @@ pub record MakesAll (span : Span) (start : State) (all : List Access) (streams :
   pub count : ℕ
   pub mid : State
   pub left : List Access
-  pub passed : TracePassed start all count mid left
+  pub passed : TracePassed TraceBeat start.beats start all count mid left
   pub ends : EndsTrace start mid count left end last
   -- by the accesses alone: the memory, what was printed, and those that are left
   pub memory : last.guest.hart.bytes ≡ bytes_after span (take last.guest.retired all) (zeros span)
@@ -121,12 +123,15 @@ pub record MakesAll (span : Span) (start : State) (all : List Access) (streams :
   pub output : IsPrintedSoFar span all last.guest.retired streams.output end
   pub input : IsUntouched streams.input
 
--- The trace has no fault, and its accesses were made up to this end.
+-- The trace has no fault, and its accesses were made up to this end: over both cache levels and the pages, and so over the
+-- lists of both levels above plain contents, where one that was refused a block is cut at a write that the contents are
+-- tight for.
 pub record Traced (settings : Settings) (file : List ℕ) (streams : Streams) (end : End) (last : State) : Type 0 where
   pub accepted : first_fault settings.geometry (numbered_rows 1 file) ≡ None
   pub first : State
   pub starts : StartsEmpty settings first
   pub makes : MakesAll settings.geometry first (accesses_of settings.geometry (numbered_rows 1 file)) streams end last
+  pub stack : StackTrace settings (stack_of first) (accesses_of settings.geometry (numbered_rows 1 file)) end (stack_of last)
 
 -- The trace was run, and the machine that it left gave the report.
 pub record TracedAndReported (settings : Settings) (file : List ℕ) (streams : Streams) (report : Report) : Type 0 where
@@ -174,7 +179,7 @@ pub record IsUntaken (old : State) (access : Access) (out : Stream) (end : End) 
   pub end_is : end ≡ OutFault
   pub load : IsLoad access
   pub value : ℕ
-  pub made : AccessBeats old access (Ok value) new
+  pub made : TriesAccess old access (Ok value) new
   pub fails : FailsToTake out (printed access (value_of old.memory.span access old.guest.hart.bytes))
 
 -- an access ends a trace: it is refused with nothing printed, or the output failed at it
@@ -183,4 +188,4 @@ FailsAtAccess old access out end new = (IsRefused old access end new × IsUntouc
 
 -- an access was made, and is printed
 abbrev pub MakesAccess : State → Access → Stream → State → Type 0
-MakesAccess old access out new = (value : ℕ) × AccessBeats old access (Ok value) new × Appends out.before out.after (printed access (value_of old.memory.span access old.guest.hart.bytes)) × (out.faults_before ≤ out.faults_now)
+MakesAccess old access out new = (value : ℕ) × TriesAccess old access (Ok value) new × Appends out.before out.after (printed access (value_of old.memory.span access old.guest.hart.bytes)) × (out.faults_before ≤ out.faults_now)

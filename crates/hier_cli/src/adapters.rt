@@ -1,10 +1,10 @@
 // The real file and streams. A source and a sink tell what their streams tell. The streams and files of the system
 // tell none of their bytes: what the system gives or takes no contract can say.
-ghost use Rattle.std.specs.Prelude.{◌≡◌, ◌<◌, ◌≤◌, ℕ, List, Option, Some, [], None, IfOk, IfSome, IsErrOf, IsOk, OnOk, OnErr, length, min, take, drop};
+ghost use Rattle.std.specs.Prelude.{◌≡◌, ◌<◌, ◌≤◌, ℕ, List, Option, [], None, IfOk, IfSome, IsErrOf, IsOk, OnOk, OnErr, length, min, take, drop};
 ghost use Rattle.std.specs.Io.KnownBytes.{Appends, IsAtEnd, Keeps, prepend_known};
 ghost use Rattle.hier_types.specs.Causes.{HasCause};
-ghost use Rattle.hier_types.specs.Outside.{AppendsFront, Takes, file_of};
-ghost use Rattle.hier_cli.specs.Files.{Opens};
+ghost use Rattle.hier_types.specs.Outside.{AppendsFront, Takes};
+ghost use Rattle.hier_cli.specs.Files.{IsFile, IsLongerThan, Opens};
 
 use arrayvec::ArrayVec;
 use hier_types::{Failed, Shelf, ShelfFault, Sink, Source};
@@ -171,6 +171,15 @@ pub struct SystemFiles<R: Files> {
     files: R,
 }
 
+impl<R: Files> SystemFiles<R> {
+    /// What opens the files that the runtime names.
+    pub fn new(files: R) -> Self
+        ensures { result.files ≡ files }
+    {
+        SystemFiles { files }
+    }
+}
+
 impl<R: Files> Opener for SystemFiles<R> {
     type File = R::File;
 
@@ -189,16 +198,13 @@ pub struct FileShelf<O: Opener> {
     faults: u64,
 }
 
-impl<R: Files> FileShelf<SystemFiles<R>> {
-    /// The files of the system, on a shelf that has not failed.
-    pub fn new(files: R) -> Self
-        ensures files { result.opener.files ≡ files }
+impl<O: Opener> FileShelf<O> {
+    /// A shelf that has not failed.
+    pub fn new(opener: O) -> Self
+        ensures opener { result.opener ≡ opener }
         ensures faults { result.faults ≡ 0 }
     {
-        FileShelf {
-            opener: SystemFiles { files },
-            faults: 0,
-        }
+        FileShelf { opener, faults: 0 }
     }
 }
 
@@ -224,8 +230,8 @@ fn load_from<O: Opener>(
     limit: u64,
 ) -> Result<Vec<u8>, ShelfFault>
     ensures bounded { IfOk result (λ file. length file.items ≤ limit) }
-    ensures found { IfSome (O.files opener.now) (λ all. IfOk result (λ file. file_of all name.now ≡ Some file.items)) }
-    ensures too_long { IsErrOf result ShelfFault.TooLong → IfSome (O.files opener.now) (λ all. (bytes : List ℕ) × (file_of all name.now ≡ Some bytes) × (limit < length bytes)) }
+    ensures found { IfOk result (λ file. IsFile (O.files opener.now) name.now file.items) }
+    ensures too_long { IsErrOf result ShelfFault.TooLong → IsLongerThan limit (O.files opener.now) name.now }
 {
     let file = match opener.open(name) {
         Ok(file) => file,

@@ -14,7 +14,7 @@ mod tests;
 mod top;
 mod traces;
 
-use adapters::{FileShelf, StreamSink, StreamSource};
+use adapters::{FileShelf, StreamSink, StreamSource, SystemFiles};
 use run_report::End;
 pub use status::Status;
 use std::process::ExitCode;
@@ -46,7 +46,7 @@ fn main(rt: HostRuntime) -> ExitCode {
         &rt,
         rt.alloc(),
         &words,
-        &mut FileShelf::new(&rt),
+        &mut FileShelf::new(SystemFiles::new(&rt)),
         &mut StreamSource::new(rt.stdin()),
         &mut StreamSink::new(rt.stdout()),
         &mut StreamSink::new(rt.stderr()),

@@ -1,7 +1,10 @@
-// The real streams' adapters, over bytes in memory.
-use crate::adapters::{StreamSink, StreamSource};
-use hier_types::{Failed, Sink, Source};
+// The real streams' and files' adapters, over bytes in memory.
+ghost use Rattle.std.specs.Prelude.{[], ◌∷◌, Some};
+
+use crate::adapters::{FileShelf, Opener, StreamSink, StreamSource};
+use hier_types::{Failed, Shelf, ShelfFault, Sink, Source};
 use std::io::{self, Read};
+use std::test::Fail;
 
 /// Gives at most two bytes at a time, and fails in its second call.
 #[derive(Drop)]
@@ -51,4 +54,46 @@ fn streams_carry_bytes(rt: HostRuntime) {
     assert_eq!(rt; sink.write(b"ab"), Ok(()));
     assert_eq!(rt; sink.write(b"cde"), Err(Failed));
     assert_eq!(rt; room, *b"abcd");
+}
+
+/// One file in memory, which it tells.
+#[derive(Drop)]
+struct OneFile<'a> {
+    name: &'a str,
+    bytes: &'a [u8],
+}
+
+impl<'a> Opener for OneFile<'a> {
+    type File = &'a [u8];
+
+    ghost files = { λ s. Some ((s.name.now, s.bytes.now) ∷ []) };
+
+    fn open(&self, name: &str) -> Result<&'a [u8], Failed> {
+        if name != self.name {
+            return Err(Failed);
+        }
+        Ok(self.bytes)
+    }
+}
+
+#[test]
+fn a_shelf_gives_whole_files(rt: HostRuntime) -> Result<(), Fail> {
+    let alloc = rt.alloc();
+    let file = OneFile {
+        name: "a",
+        bytes: b"abc",
+    };
+    let mut shelf = FileShelf::new(file);
+    for limit in [3, 4, u64::MAX] {
+        let file = shelf.load(alloc, "a", limit).ok().ok_or("no file")?;
+        assert_eq!(rt; file.as_slice(), b"abc".as_slice());
+    }
+    for (name, limit, fault) in [
+        ("a", 2, ShelfFault::TooLong),
+        ("a", 0, ShelfFault::TooLong),
+        ("b", 3, ShelfFault::Failed),
+    ] {
+        assert_eq!(rt; shelf.load(alloc, name, limit).err(), Some(fault));
+    }
+    Ok(())
 }
