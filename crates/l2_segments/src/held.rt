@@ -1,0 +1,43 @@
+// Where a string stands.
+ghost use Rattle.std.specs.Prelude.{◌≡◌, ◌≤◌, ◌+◌, ◌*◌};
+ghost use Rattle.l2_segments.specs.Strings.{segments_of};
+
+/// A string's place: its tag, its first segment, and its length in bytes.
+#[derive(Clone, Copy, Default)]
+pub(crate) struct Held {
+    pub(crate) tag: u8,
+    pub(crate) start: u32,
+    pub(crate) len: u8,
+}
+
+impl Held {
+    /// The index of its first byte.
+    pub(crate) fn first_byte(&self) -> usize
+        ensures { result ≡ 8 * self.now.start }
+    {
+        8 * self.start as usize
+    }
+
+    /// The segments that it takes.
+    pub(crate) fn segments(&self) -> u32
+        ensures { result ≡ segments_of self.now.len }
+    {
+        segments_of(self.len as usize)
+    }
+
+    /// The segment behind it.
+    pub(crate) fn end(&self) -> u32
+        requires { self.now.start ≤ 128 }
+        ensures { result ≡ self.now.start + segments_of self.now.len }
+    {
+        self.start + self.segments()
+    }
+}
+
+/// The segments that so many bytes take.
+pub(crate) fn segments_of(bytes: usize) -> u32
+    requires { bytes ≤ 255 }
+    ensures { result ≡ segments_of bytes }
+{
+    (bytes as u32 + 7) / 8
+}
