@@ -1,5 +1,5 @@
 -- Strings as they stand in the bytes.
-use Rattle.std.proofs.Common.{◌≡◌, ◌≢◌, ◌<◌, ◌≤◌, ◌+◌, ◌*◌, ◌/◌, ℕ, zero, suc, true, false, List, [], ◌∷◌, ◌++◌, Option, Some, None, length, map, refl, sym, ap, ◌∙◌, subst, inl, inr, arith}
+use Rattle.std.proofs.Common.{◌≡◌, ◌≢◌, ◌<◌, ◌≤◌, ◌+◌, ◌*◌, ◌/◌, ℕ, zero, suc, true, false, List, [], ◌∷◌, ◌++◌, Option, Some, None, length, map, refl, sym, ap, ◌∙◌, subst, inl, inr, arith, length-append}
 use Rattle.std.specs.Option.{is_some}
 use Rattle.std.specs.List.{remove}
 use Rattle.std.proofs.lemmas.List.{map-append}
@@ -7,7 +7,7 @@ use Rattle.std.proofs.lemmas.List.Sums.{sum_by-cons}
 use Rattle.std.proofs.lemmas.Bool.{cases_eq}
 use Rattle.l2_segments.specs.declared.held.Held.{Held}
 use Rattle.l2_segments.specs.Parts.{part, ChangesWithin}
-use Rattle.l2_segments.specs.Strings.{Text, Strings, segments_of, segments_sum, string_of, without, AreDistinct, IsString, AreStrings, IsSound}
+use Rattle.l2_segments.specs.Strings.{Text, Strings, segments_of, segments_sum, string_of, without, with_one_more, AreDistinct, IsString, AreStrings, IsSound}
 use Rattle.l2_segments.specs.Held.{text_at, texts_of, held_at, segments_in, IsLaid, HasTag, IsStored}
 use Rattle.l2_segments.proofs.PartLemmas.{length-part}
 use Rattle.l2_segments.proofs.LaidLemmas.{segments_in-cons, laid_fits, laid_more, laid-remove}
@@ -108,3 +108,40 @@ texts_placed start old new hs tag bytes laid within change there =
     map-append (text_at new) hs ((record { tag = tag; start = start; len = length bytes }) ∷ [])
     ∙ ap (λ ts. ts ++ text_at new (record { tag = tag; start = start; len = length bytes }) ∷ []) (texts_stay (8 * start) (length bytes) 0 (8 * start) old new hs change laid within (inl (omega arith)))
     ∙ ap (λ (b : List ℕ). texts_of old hs ++ (let t : Text = record { tag = tag; bytes = b } in t) ∷ []) there
+
+text_more : (limit tag : ℕ) (bytes : List ℕ) → tag < limit → 1 ≤ length bytes → length bytes ≤ 64 → IsString limit (record { tag = tag; bytes = bytes })
+text_more limit tag bytes below some most = record { tag = below; some = some; most = most }
+
+length-texts : (store : List ℕ) (hs : List Held) → length (texts_of store hs) ≡ length hs
+length-texts store [] = refl
+length-texts store (h ∷ hs) = let rest = length-texts store hs in omega arith
+
+-- where a tag is not used, there are fewer strings than tags
+pub few_places : {ways : ℕ} {store : List ℕ} {hs : List Held} → IsStored ways store hs → (tag : ℕ) → tag < 2 * ways → string_of (texts_of store hs) tag ≡ None → length hs < 32
+few_places {ways} {store} {hs} is tag below none =
+    let t : Text = record { tag = tag; bytes = 0 ∷ [] } in
+    let count = few (2 * ways) (texts_of store hs ++ t ∷ []) (strings_more (2 * ways) (texts_of store hs) t is.strings (text_more (2 * ways) tag (0 ∷ []) below (omega arith) (omega arith)))
+    (distinct_more (texts_of store hs) t is.once none) in
+    let most = is.within.1 in
+    omega (arith, length-append (texts_of store hs) (t ∷ []), length-texts store hs)
+
+-- after the string was written behind the others
+pub stored_placed : {ways : ℕ} {store : List ℕ} {hs : List Held} → IsStored ways store hs → (mid new : List ℕ) (places : List Held) (start tag : ℕ) (bytes : List ℕ)
+    → texts_of mid places ≡ texts_of store hs → IsLaid 0 (8 * start) places → 8 * (start + segments_of (length bytes)) ≤ length store → length mid ≡ length store
+    → ChangesWithin (8 * start) (length bytes) mid new → part (8 * start) (length bytes) new ≡ bytes
+    → tag < 2 * ways → string_of (texts_of store hs) tag ≡ None → 1 ≤ length bytes → length bytes ≤ 64
+    → IsStored ways new (places ++ (record { tag = tag; start = start; len = length bytes }) ∷ [])
+    × (texts_of new (places ++ (record { tag = tag; start = start; len = length bytes }) ∷ []) ≡ with_one_more (texts_of store hs) tag bytes)
+stored_placed {ways} {store} {hs} is mid new places start tag bytes texts laid fits same change there below none some most =
+    let h : Held = record { tag = tag; start = start; len = length bytes } in
+    let t : Text = record { tag = tag; bytes = bytes } in
+    let all : texts_of new (places ++ h ∷ []) ≡ with_one_more (texts_of store hs) tag bytes =
+    texts_placed start mid new places tag bytes laid (omega arith) change there ∙ ap (λ ts. with_one_more ts tag bytes) texts in
+    let size : length new ≡ length store = change.same_length ∙ same in
+    (record {
+      within = is.within;
+      size = size ∙ is.size;
+      laid = laid_more 0 start (length new) places h laid (omega arith) (omega arith);
+      strings = subst (AreStrings (2 * ways)) (sym all) (strings_more (2 * ways) (texts_of store hs) t is.strings (text_more (2 * ways) tag bytes below some most));
+      once = subst AreDistinct (sym all) (distinct_more (texts_of store hs) t is.once none);
+    }, all)
