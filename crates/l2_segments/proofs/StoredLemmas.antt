@@ -1,6 +1,6 @@
 -- Strings as they stand in the bytes.
-use Rattle.std.proofs.Common.{◌≡◌, ◌≢◌, ◌<◌, ◌≤◌, ◌+◌, ◌*◌, ◌/◌, ℕ, zero, suc, true, false, List, [], ◌∷◌, ◌++◌, Option, Some, None, length, map, refl, sym, ap, ◌∙◌, subst, inl, inr, arith, length-append}
-use Rattle.std.specs.Option.{is_some}
+use Rattle.std.proofs.Common.{◌≡◌, ◌≢◌, ◌<◌, ◌≤◌, ◌+◌, ◌-◌, ◌*◌, ◌/◌, ℕ, zero, suc, true, false, List, [], ◌∷◌, ◌++◌, Option, Some, None, length, map, refl, sym, ap, ◌∙◌, subst, inl, inr, arith, length-append}
+use Rattle.std.specs.Option.{is_some, IfSome}
 use Rattle.std.specs.List.{remove}
 use Rattle.std.proofs.lemmas.List.{map-append}
 use Rattle.std.proofs.lemmas.List.Sums.{sum_by-cons}
@@ -12,7 +12,7 @@ use Rattle.l2_segments.specs.Held.{text_at, texts_of, held_at, segments_in, IsLa
 use Rattle.l2_segments.proofs.PartLemmas.{length-part}
 use Rattle.l2_segments.proofs.LaidLemmas.{segments_in-cons, laid_fits, laid_more, laid-remove}
 use Rattle.l2_segments.proofs.SlideLemmas.{texts_stay}
-use Rattle.l2_segments.proofs.TextLemmas.{string_of-here, string_of-past, without-here, without-past, without_none, distinct_more, strings_more, distinct-without, strings-without, few}
+use Rattle.l2_segments.proofs.TextLemmas.{string_of-here, string_of-past, without-here, without-past, without_none, distinct_more, strings_more, distinct-without, strings-without, segments_sum-without, few}
 
 -- the strings take the segments of their places
 pub segments_sum-texts : (from size : ℕ) (store : List ℕ) (hs : List Held) → IsLaid from size hs → size ≤ length store → segments_sum (texts_of store hs) ≡ segments_in hs
@@ -145,3 +145,13 @@ stored_placed {ways} {store} {hs} is mid new places start tag bytes texts laid f
       strings = subst (AreStrings (2 * ways)) (sym all) (strings_more (2 * ways) (texts_of store hs) t is.strings (text_more (2 * ways) tag bytes below some most));
       once = subst AreDistinct (sym all) (distinct_more (texts_of store hs) t is.once none);
     }, all)
+
+-- the room when the string under a tag is given up
+pub room_freed : {ways : ℕ} {store : List ℕ} {hs : List Held} → IsStored ways store hs → (tag : ℕ)
+    → IfSome (string_of (texts_of store hs) tag) (λ bytes. 8 * ways - segments_sum (without (texts_of store hs) tag) ≡ 8 * ways - segments_sum (texts_of store hs) + segments_of (length bytes))
+room_freed {ways} {store} {hs} is tag =
+    let fits = (stored_sound is).fits in
+    elim (string_of (texts_of store hs) tag) as (λ o. string_of (texts_of store hs) tag ≡ o → IfSome o (λ bytes. 8 * ways - segments_sum (without (texts_of store hs) tag) ≡ 8 * ways - segments_sum (texts_of store hs) + segments_of (length bytes))) [
+      | None ↦ λ none. tt
+      | Some bytes ↦ λ some. let sum = segments_sum-without (texts_of store hs) tag bytes is.once some in omega arith
+    ] refl

@@ -3,8 +3,9 @@ use Rattle.std.proofs.Common.{◌≡◌, ◌≢◌, ◌<◌, ◌≤◌, ◌+◌,
 use Rattle.std.specs.Option.{is_some}
 use Rattle.std.specs.List.{IsDistinct, AllByRecursion, list_any}
 use Rattle.std.proofs.lemmas.Bool.{eqb-true, eq-eqb, ne_eqb, cases_eq}
+use Rattle.std.proofs.lemmas.List.Sums.{sum_by-cons}
 use Rattle.std.proofs.lemmas.Map.Steps.{length-le_from_distinct_below}
-use Rattle.l2_segments.specs.Strings.{Text, string_of, without, AreDistinct, IsString, AreStrings}
+use Rattle.l2_segments.specs.Strings.{Text, segments_of, segments_sum, string_of, without, with_one_more, AreDistinct, IsString, AreStrings}
 
 pub string_of-here : (t : Text) (ts : List Text) (tag : ℕ) → t.tag ≡ tag → string_of (t ∷ ts) tag ≡ Some t.bytes
 string_of-here t ts tag e = rw (eq-eqb t.tag tag e) refl
@@ -71,6 +72,60 @@ strings-without limit (t ∷ ts) tag are =
       | inl e ↦ subst (AreStrings limit) (sym (without-here t ts tag e)) (strings-without limit ts tag are.1)
       | inr ne ↦ subst (AreStrings limit) (sym (without-past t ts tag ne)) (are.0, strings-without limit ts tag are.1)
     ]
+
+pub string_of-without : (ts : List Text) (tag : ℕ) → string_of (without ts tag) tag ≡ None
+string_of-without [] tag = refl
+string_of-without (t ∷ ts) tag =
+    elim (cases_eq t.tag tag) [
+      | inl e ↦ ap (λ l. string_of l tag) (without-here t ts tag e) ∙ string_of-without ts tag
+      | inr ne ↦ ap (λ l. string_of l tag) (without-past t ts tag ne) ∙ unused_here t (without ts tag) tag ne (string_of-without ts tag)
+    ]
+
+-- two lists with the same first string
+first_same : (t : Text) (us ts : List Text) (tag : ℕ) → string_of us tag ≡ string_of ts tag → string_of (t ∷ us) tag ≡ string_of (t ∷ ts) tag
+first_same t us ts tag same =
+    elim (cases_eq t.tag tag) [
+      | inl e ↦ string_of-here t us tag e ∙ sym (string_of-here t ts tag e)
+      | inr ne ↦ string_of-past t us tag ne ∙ same ∙ sym (string_of-past t ts tag ne)
+    ]
+
+pub string_of-without_other : (ts : List Text) (tag other : ℕ) → other ≢ tag → string_of (without ts tag) other ≡ string_of ts other
+string_of-without_other [] tag other ne = refl
+string_of-without_other (t ∷ ts) tag other ne =
+    let rest = string_of-without_other ts tag other ne in
+    elim (cases_eq t.tag tag) [
+      | inl e ↦ ap (λ l. string_of l other) (without-here t ts tag e) ∙ rest ∙ sym (string_of-past t ts other (λ k. ne (sym k ∙ e)))
+      | inr apart ↦ ap (λ l. string_of l other) (without-past t ts tag apart) ∙ first_same t (without ts tag) ts other rest
+    ]
+
+pub string_of-one_more : (ts : List Text) (tag : ℕ) (bytes : List ℕ) → string_of ts tag ≡ None → string_of (with_one_more ts tag bytes) tag ≡ Some bytes
+string_of-one_more [] tag bytes none = string_of-here (record { tag = tag; bytes = bytes }) [] tag refl
+string_of-one_more (t ∷ ts) tag bytes none =
+    string_of-past t (with_one_more ts tag bytes) tag (unused_apart t ts tag none) ∙ string_of-one_more ts tag bytes (unused_past t ts tag none)
+
+pub string_of-one_more_other : (ts : List Text) (tag : ℕ) (bytes : List ℕ) (other : ℕ) → other ≢ tag → string_of (with_one_more ts tag bytes) other ≡ string_of ts other
+string_of-one_more_other [] tag bytes other ne = string_of-past (record { tag = tag; bytes = bytes }) [] other (λ e. ne (sym e))
+string_of-one_more_other (t ∷ ts) tag bytes other ne = first_same t (with_one_more ts tag bytes) ts other (string_of-one_more_other ts tag bytes other ne)
+
+-- what the others take, and this one
+pub segments_sum-without : (ts : List Text) (tag : ℕ) (bytes : List ℕ) → AreDistinct ts → string_of ts tag ≡ Some bytes → segments_sum (without ts tag) + segments_of (length bytes) ≡ segments_sum ts
+segments_sum-without [] tag bytes once is = absurd (let k = is in cc)
+segments_sum-without (t ∷ ts) tag bytes once is =
+    let all : segments_sum (t ∷ ts) ≡ segments_of (length t.bytes) + segments_sum ts = sum_by-cons (λ (t : Text). segments_of (length t.bytes)) t ts in
+    elim (cases_eq t.tag tag) [
+      | inl e ↦
+        let same : t.bytes ≡ bytes = some_same (sym (string_of-here t ts tag e) ∙ is) in
+        let others : without (t ∷ ts) tag ≡ ts = without-here t ts tag e ∙ without_none ts tag (ap (string_of ts) (sym e) ∙ once.0) in
+        omega (arith, ap segments_sum others, ap (λ b. segments_of (length b)) same)
+      | inr ne ↦
+        let rest = segments_sum-without ts tag bytes once.1 (sym (string_of-past t ts tag ne) ∙ is) in
+        let cut : segments_sum (without (t ∷ ts) tag) ≡ segments_of (length t.bytes) + segments_sum (without ts tag) =
+        ap segments_sum (without-past t ts tag ne) ∙ sum_by-cons (λ (t : Text). segments_of (length t.bytes)) t (without ts tag) in
+        omega arith
+    ]
+  where
+    some_same : {x y : List ℕ} → Some x ≡ Some y → x ≡ y
+    some_same e = cc
 
 abbrev tags_of : List Text → List ℕ
 tags_of ts = map (λ t. t.tag) ts

@@ -1,23 +1,28 @@
 // Strings in segments.
-ghost use Rattle.std.specs.Prelude.{◌≡◌, ◌<◌, ◌≤◌, ◌*◌, ◌↔◌, [], ◌++◌, None, true, length, drop, is_some, IfOk, IfSome, IsTrue, IsFalse};
+ghost use Rattle.std.specs.Prelude.{◌≡◌, ◌≢◌, ◌<◌, ◌≤◌, ◌+◌, ◌*◌, ℕ, ◌↔◌, [], ◌++◌, Some, None, true, length, drop, is_some, IfOk, IfSome, IsTrue, IsFalse};
 ghost use Rattle.hier_types.specs.Settings.{IsWithin};
 ghost use Rattle.l2_segments.specs.Strings.{segments_of, room_of, string_of, without, with_texts, with_one_more, IsSound};
 
-use crate::held::{Held, segments_of};
+use crate::held::{Held, LINE_SEGMENTS, first_byte, segments_of};
 use crate::parts::{read_part, write_part};
 use crate::slide::{index_of, segments_in, start_for};
 use arrayvec::ArrayVec;
-use hier_types::NoMemory;
+use hier_types::{LINE_BYTES, NoMemory};
 use std::alloc::Global;
 use std::marker::Model;
+
+/// Strings at most: under two tags for each of 16 lines.
+const MOST_STRINGS: usize = 32;
 
 /// Strings of 1 to 64 bytes, each under a tag of its own, in the bytes of so many whole lines. A string takes whole
 /// segments of 8 bytes, in a row. Those in use stand in the order in which they were put there.
 #[derive(Drop)]
 pub struct Segments {
     ways: u32,
+    // The bytes of the lines.
     store: Vec<u8>,
-    held: ArrayVec<Held, 32>,
+    // One behind the other, at rising segments.
+    held: ArrayVec<Held, MOST_STRINGS>,
 }
 
 impl Model for Segments {
@@ -37,7 +42,7 @@ impl Segments {
         requires { IsWithin 1 16 ways }
         ensures { IfOk result (λ made. made ≡ record { ways = ways; texts = [] }) }
     {
-        let store = vec![in alloc; 0; 64 * ways as usize]?;
+        let store = vec![in alloc; 0; (LINE_BYTES * ways) as usize]?;
         Ok(Segments {
             ways,
             store,
@@ -50,7 +55,7 @@ impl Segments {
         ensures room { result ≡ room_of self.now }
         ensures sound { IsSound self.now }
     {
-        8 * self.ways - segments_in(&self.held)
+        LINE_SEGMENTS * self.ways - segments_in(&self.held)
     }
 
     /// Puts a string of 1 to 64 bytes under a tag that is not used, and tells whether enough segments are free for it.
@@ -62,6 +67,10 @@ impl Segments {
         ensures fits { IsTrue result ↔ (segments_of (length bytes.now) ≤ room_of self.old) }
         ensures placed { IsTrue result → self.new ≡ with_texts self.old (with_one_more self.old.texts tag bytes.now) }
         ensures unchanged { IsFalse result → self.new ≡ self.old }
+
+        // By tags: the string stands under its own, and each other string as before.
+        ensures there { IsTrue result → string_of self.new.texts tag ≡ Some bytes.now }
+        ensures others { (other : ℕ) → other ≢ tag → string_of self.new.texts other ≡ string_of self.old.texts other }
     {
         let segments = segments_of(bytes.len());
         if segments > self.room() {
@@ -73,7 +82,7 @@ impl Segments {
             start,
             len: bytes.len() as u8,
         };
-        write_part(&mut self.store, string.first_byte(), bytes);
+        write_part(&mut self.store, first_byte(start), bytes);
         self.held.push(string);
         true
     }
@@ -81,7 +90,12 @@ impl Segments {
     /// Gives up the string under a tag.
     pub fn remove(&mut self, tag: u8)
         requires { is_some (string_of self.old.texts tag) ≡ true }
-        ensures { self.new ≡ with_texts self.old (without self.old.texts tag) }
+        ensures after { self.new ≡ with_texts self.old (without self.old.texts tag) }
+
+        // By tags: none stands under this one, each other string as before, and the segments of this one are free.
+        ensures absent { string_of self.new.texts tag ≡ None }
+        ensures others { (other : ℕ) → other ≢ tag → string_of self.new.texts other ≡ string_of self.old.texts other }
+        ensures freed { IfSome (string_of self.old.texts tag) (λ bytes. room_of self.new ≡ room_of self.old + segments_of (length bytes)) }
     {
         let index = index_of(&self.held, tag);
         self.held.remove(index);
@@ -93,7 +107,7 @@ impl Segments {
         ensures { IfSome (string_of self.now.texts tag) (λ bytes. (result ≡ length bytes) × (into.new ≡ bytes ++ drop (length bytes) into.old)) }
     {
         let string = self.held[index_of(&self.held, tag)];
-        read_part(&self.store, string.first_byte(), string.len as usize, into);
+        read_part(&self.store, first_byte(string.start), string.len as usize, into);
         string.len
     }
 }

@@ -4,7 +4,7 @@ ghost use Rattle.l2_segments.specs.Strings.{segments_of};
 ghost use Rattle.l2_segments.specs.Parts.{part, ChangesWithin};
 ghost use Rattle.l2_segments.specs.Held.{texts_of, segments_in, IsLaid, HasTag};
 
-use crate::held::Held;
+use crate::held::{Held, first_byte};
 use crate::parts::move_part;
 
 /// The index of the string under a tag.
@@ -12,12 +12,10 @@ pub(crate) fn index_of(held: &[Held], tag: u8) -> usize
     requires { (index : ℕ) × HasTag held.now tag index }
     ensures { HasTag held.now tag result }
 {
-    for (index, string) in held.iter().enumerate() {
-        if string.tag == tag {
-            return index;
-        }
+    match held.iter().position(|string| string.tag == tag) {
+        Some(index) => index,
+        None => unreachable!(),
     }
-    unreachable!()
 }
 
 /// The segments that the strings take.
@@ -25,11 +23,7 @@ pub(crate) fn segments_in(held: &[Held]) -> u32
     requires { segments_in held.now ≤ 128 }
     ensures { result ≡ segments_in held.now }
 {
-    let mut segments = 0;
-    for string in held {
-        segments += string.segments();
-    }
-    segments
+    held.iter().map(|string| string.segments()).sum()
 }
 
 /// The segment behind the last string.
@@ -55,7 +49,7 @@ pub(crate) fn start_for(store: &mut [u8], held: &mut [Held], segments: u32) -> u
     ensures room { 8 * (result + segments) ≤ length store.old }
 {
     let end = end_of(held);
-    if 8 * (end + segments) as usize <= store.len() {
+    if first_byte(end + segments) <= store.len() {
         return end;
     }
     slide(store, held)
@@ -86,6 +80,6 @@ fn move_string(store: &mut [u8], string: &mut Held, to: u32)
     ensures changes { ChangesWithin (8 * to) string.old.len store.old store.new }
     ensures there { part (8 * to) string.old.len store.new ≡ part (8 * string.old.start) string.old.len store.old }
 {
-    move_part(store, string.first_byte(), string.len as usize, 8 * to as usize);
+    move_part(store, first_byte(string.start), string.len as usize, first_byte(to));
     string.start = to;
 }

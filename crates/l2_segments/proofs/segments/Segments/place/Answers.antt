@@ -4,8 +4,9 @@ use Rattle.std.proofs.lemmas.List.{with_items_is}
 use Rattle.arrayvec.proofs.ArrayVecLemmas.{items-with_items}
 use Rattle.l2_segments.specs.declared.held.Held.{Held}
 use Rattle.l2_segments.specs.Parts.{part, ChangesWithin}
-use Rattle.l2_segments.specs.Strings.{segments_of, with_texts, with_one_more}
+use Rattle.l2_segments.specs.Strings.{segments_of, string_of, with_texts, with_one_more}
 use Rattle.l2_segments.specs.Held.{texts_of, segments_in, IsLaid, IsStored}
+use Rattle.l2_segments.proofs.TextLemmas.{string_of-one_more, string_of-one_more_other}
 use Rattle.l2_segments.proofs.StoredLemmas.{few_places, stored_placed, segments_sum-texts}
 use Rattle.l2_segments.proofs.segments.Segments.place.Goals as goal
 
@@ -61,8 +62,21 @@ invariant_of-self c =
     rw (new_items c)
     (subst (λ (l : List ℕ). IsStored c.self.inside.ways l (c.start_for-start.new.held ++ place_of c ∷ [])) (sym (new_store c)) (placed c).0)
 
+all_texts : (c : goal.After-push)
+    → texts_of (with_items (with_items c.self.inside.store c.start_for-start.new.store) c.write_part.new.store).items c.push.new.self.items
+    ≡ with_one_more (texts_of c.self.inside.store.items c.self.inside.held.items) c.args.tag c.args.bytes.now
+all_texts c = ap (λ (l : List ℕ). texts_of l c.push.new.self.items) (new_store c) ∙ ap (texts_of c.write_part.new.store) (new_items c) ∙ (placed c).1
+
 pub returns-clause-placed : goal.returns-clause-placed
 returns-clause-placed c = λ _.
-    rw (← c.self.view_is, new_items c)
-    (ap (λ ts. with_texts (record { ways = c.self.inside.ways; texts = [] }) ts)
-    (ap (λ (l : List ℕ). texts_of l (c.start_for-start.new.held ++ place_of c ∷ [])) (new_store c) ∙ (placed c).1))
+    rw (← c.self.view_is) (ap (λ ts. with_texts (record { ways = c.self.inside.ways; texts = [] }) ts) (all_texts c))
+
+pub returns-clause-there : goal.returns-clause-there
+returns-clause-there c = λ _.
+    ap (λ ts. string_of ts c.args.tag) (all_texts c)
+    ∙ string_of-one_more (texts_of c.self.inside.store.items c.self.inside.held.items) c.args.tag c.args.bytes.now (rw (← c.self.view_is) at c.requires.unused)
+
+pub returns-clause-others : goal.returns-clause-others
+returns-clause-others c = λ other ne.
+    rw (← c.self.view_is) (ap (λ ts. string_of ts other) (all_texts c)
+    ∙ string_of-one_more_other (texts_of c.self.inside.store.items c.self.inside.held.items) c.args.tag c.args.bytes.now other ne)
