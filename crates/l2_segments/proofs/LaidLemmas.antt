@@ -1,5 +1,5 @@
 -- Strings that stand one behind the other.
-use Rattle.std.proofs.Common.{◌≡◌, ◌<◌, ◌≤◌, ◌+◌, ◌-◌, ◌*◌, ◌/◌, ℕ, zero, suc, List, [], ◌∷◌, ◌++◌, Option, Some, None, length, take, drop, refl, sym, ap, ◌∙◌, subst, arith}
+use Rattle.std.proofs.Common.{◌≡◌, ◌<◌, ◌≤◌, ◌+◌, ◌-◌, ◌*◌, ℕ, zero, suc, List, [], ◌∷◌, ◌++◌, Some, length, sym, ap, ◌∙◌, subst, arith}
 use Rattle.std.specs.List.{slice_get, remove}
 use Rattle.std.proofs.lemmas.List.Sums.{sum_by-cons}
 use Rattle.l2_segments.specs.declared.held.Held.{Held}
@@ -32,11 +32,6 @@ laid-append from mid size (h ∷ hs) ys front rest = (front.0, laid-append (h.st
 pub laid_more : (from start size : ℕ) (hs : List Held) (h : Held) → IsLaid from (8 * start) hs → start ≤ h.start → 8 * (h.start + segments_of h.len) ≤ size → IsLaid from size (hs ++ h ∷ [])
 laid_more from start size hs h laid le fits = laid-append from start size hs (h ∷ []) laid (le, fits)
 
--- they stand as well within a larger number of bytes
-pub laid_wider : (from size more : ℕ) (hs : List Held) → size ≤ more → IsLaid from size hs → IsLaid from more hs
-laid_wider from size more [] le laid = omega arith
-laid_wider from size more (h ∷ hs) le laid = (laid.0, laid_wider (h.start + segments_of h.len) size more hs le laid.1)
-
 pub laid-remove : (from size i : ℕ) (hs : List Held) → i < length hs → IsLaid from size hs → IsLaid from size (remove hs i)
 laid-remove from size i [] within laid = absurd (omega arith)
 laid-remove from size zero (h ∷ hs) within laid = let first = laid.0 in laid_lower from (h.start + segments_of h.len) size hs (omega arith) laid.1
@@ -54,12 +49,3 @@ laid_last from size (y ∷ z ∷ zs) h is laid =
     let there : length (z ∷ zs) - 1 ≡ length zs = omega arith in
     let last = laid_last (y.start + segments_of y.len) size (z ∷ zs) h (ap (slice_get (z ∷ zs)) there ∙ sym (ap (slice_get (y ∷ z ∷ zs)) here) ∙ is) laid.1 in
     ((laid.0, last.0), last.1)
-
-pub laid_none : (hs : List Held) → slice_get hs (length hs - 1) ≡ None → hs ≡ []
-laid_none [] is = refl
-laid_none (y ∷ []) is = absurd (let k = is in cc)
-laid_none (y ∷ z ∷ zs) is =
-    let here : length (y ∷ z ∷ zs) - 1 ≡ suc (length zs) = omega arith in
-    let there : length (z ∷ zs) - 1 ≡ length zs = omega arith in
-    let e = laid_none (z ∷ zs) (ap (slice_get (z ∷ zs)) there ∙ sym (ap (slice_get (y ∷ z ∷ zs)) here) ∙ is) in
-    absurd (let k = e in cc)

@@ -1,5 +1,5 @@
 -- Strings as they stand in the bytes.
-use Rattle.std.proofs.Common.{◌≡◌, ◌≢◌, ◌<◌, ◌≤◌, ◌+◌, ◌-◌, ◌*◌, ◌/◌, ℕ, zero, suc, true, false, List, [], ◌∷◌, ◌++◌, Option, Some, None, length, map, refl, sym, ap, ◌∙◌, subst, inl, inr, arith, length-append}
+use Rattle.std.proofs.Common.{◌≡◌, ◌<◌, ◌≤◌, ◌+◌, ◌-◌, ◌*◌, ℕ, zero, suc, true, List, [], ◌∷◌, ◌++◌, Some, None, length, refl, sym, ap, ◌∙◌, subst, inl, inr, arith, length-append}
 use Rattle.std.specs.Option.{is_some, IfSome}
 use Rattle.std.specs.List.{remove}
 use Rattle.std.proofs.lemmas.List.{map-append}
@@ -7,7 +7,7 @@ use Rattle.std.proofs.lemmas.List.Sums.{sum_by-cons}
 use Rattle.std.proofs.lemmas.Bool.{cases_eq}
 use Rattle.l2_segments.specs.declared.held.Held.{Held}
 use Rattle.l2_segments.specs.Parts.{part, ChangesWithin}
-use Rattle.l2_segments.specs.Strings.{Text, Strings, segments_of, segments_sum, string_of, without, with_one_more, AreDistinct, IsString, AreStrings, IsSound}
+use Rattle.l2_segments.specs.Strings.{Text, segments_of, segments_sum, string_of, without, with_one_more, AreDistinct, IsString, AreStrings, IsSound}
 use Rattle.l2_segments.specs.Held.{text_at, texts_of, held_at, segments_in, IsLaid, HasTag, IsStored}
 use Rattle.l2_segments.proofs.PartLemmas.{length-part}
 use Rattle.l2_segments.proofs.LaidLemmas.{segments_in-cons, laid_fits, laid_more, laid-remove}
@@ -37,9 +37,9 @@ used store (h ∷ hs) tag some =
     elim (cases_eq h.tag tag) [
       | inl e ↦ (zero, record { inside = omega arith; tagged = e })
       | inr ne ↦
-        let rest = used store hs tag (sym (ap is_some (string_of-past (text_at store h) (texts_of store hs) tag ne)) ∙ some) in
-        let is = rest.1 in
-        (suc rest.0, record { inside = omega (arith, is.inside); tagged = is.tagged })
+          let rest = used store hs tag (sym (ap is_some (string_of-past (text_at store h) (texts_of store hs) tag ne)) ∙ some) in
+          let is = rest.1 in
+          (suc rest.0, record { inside = omega (arith, is.inside); tagged = is.tagged })
     ]
 
 behind : (h : Held) (hs : List Held) (tag i : ℕ) → HasTag (h ∷ hs) tag (suc i) → HasTag hs tag i
@@ -137,14 +137,16 @@ stored_placed {ways} {store} {hs} is mid new places start tag bytes texts laid f
     let t : Text = record { tag = tag; bytes = bytes } in
     let all : texts_of new (places ++ h ∷ []) ≡ with_one_more (texts_of store hs) tag bytes =
     texts_placed start mid new places tag bytes laid (omega arith) change there ∙ ap (λ ts. with_one_more ts tag bytes) texts in
-    let size : length new ≡ length store = change.same_length ∙ same in
-    (record {
-      within = is.within;
-      size = size ∙ is.size;
-      laid = laid_more 0 start (length new) places h laid (omega arith) (omega arith);
-      strings = subst (AreStrings (2 * ways)) (sym all) (strings_more (2 * ways) (texts_of store hs) t is.strings (text_more (2 * ways) tag bytes below some most));
-      once = subst AreDistinct (sym all) (distinct_more (texts_of store hs) t is.once none);
-    }, all)
+    let size : length new ≡ length store = change.same_length ∙ same in (
+      record {
+        within = is.within;
+        size = size ∙ is.size;
+        laid = laid_more 0 start (length new) places h laid (omega arith) (omega arith);
+        strings = subst (AreStrings (2 * ways)) (sym all) (strings_more (2 * ways) (texts_of store hs) t is.strings (text_more (2 * ways) tag bytes below some most));
+        once = subst AreDistinct (sym all) (distinct_more (texts_of store hs) t is.once none);
+      },
+      all,
+    )
 
 -- the room when the string under a tag is given up
 pub room_freed : {ways : ℕ} {store : List ℕ} {hs : List Held} → IsStored ways store hs → (tag : ℕ)

@@ -1,8 +1,7 @@
 -- Strings and their tags.
-use Rattle.std.proofs.Common.{◌≡◌, ◌≢◌, ◌<◌, ◌≤◌, ◌+◌, ◌==◌, ◌⊎◌, ℕ, Bool, true, false, List, [], ◌∷◌, ◌++◌, Option, Some, None, length, map, refl, sym, ap, ◌∙◌, subst, inl, inr, arith, length-append, if◌then◌else◌}
-use Rattle.std.specs.Option.{is_some}
+use Rattle.std.proofs.Common.{◌≡◌, ◌≢◌, ◌<◌, ◌≤◌, ◌+◌, ◌==◌, ℕ, true, false, List, [], ◌∷◌, ◌++◌, Some, None, length, map, refl, sym, ap, ◌∙◌, subst, inl, inr, arith}
 use Rattle.std.specs.List.{IsDistinct, AllByRecursion, list_any}
-use Rattle.std.proofs.lemmas.Bool.{eqb-true, eq-eqb, ne_eqb, cases_eq}
+use Rattle.std.proofs.lemmas.Bool.{eq-eqb, ne_eqb, cases_eq}
 use Rattle.std.proofs.lemmas.List.Sums.{sum_by-cons}
 use Rattle.std.proofs.lemmas.Map.Steps.{length-le_from_distinct_below}
 use Rattle.l2_segments.specs.Strings.{Text, segments_of, segments_sum, string_of, without, with_one_more, AreDistinct, IsString, AreStrings}
@@ -114,14 +113,14 @@ segments_sum-without (t ∷ ts) tag bytes once is =
     let all : segments_sum (t ∷ ts) ≡ segments_of (length t.bytes) + segments_sum ts = sum_by-cons (λ (t : Text). segments_of (length t.bytes)) t ts in
     elim (cases_eq t.tag tag) [
       | inl e ↦
-        let same : t.bytes ≡ bytes = some_same (sym (string_of-here t ts tag e) ∙ is) in
-        let others : without (t ∷ ts) tag ≡ ts = without-here t ts tag e ∙ without_none ts tag (ap (string_of ts) (sym e) ∙ once.0) in
-        omega (arith, ap segments_sum others, ap (λ b. segments_of (length b)) same)
+          let same : t.bytes ≡ bytes = some_same (sym (string_of-here t ts tag e) ∙ is) in
+          let others : without (t ∷ ts) tag ≡ ts = without-here t ts tag e ∙ without_none ts tag (ap (string_of ts) (sym e) ∙ once.0) in
+          omega (arith, ap segments_sum others, ap (λ b. segments_of (length b)) same)
       | inr ne ↦
-        let rest = segments_sum-without ts tag bytes once.1 (sym (string_of-past t ts tag ne) ∙ is) in
-        let cut : segments_sum (without (t ∷ ts) tag) ≡ segments_of (length t.bytes) + segments_sum (without ts tag) =
-        ap segments_sum (without-past t ts tag ne) ∙ sum_by-cons (λ (t : Text). segments_of (length t.bytes)) t (without ts tag) in
-        omega arith
+          let rest = segments_sum-without ts tag bytes once.1 (sym (string_of-past t ts tag ne) ∙ is) in
+          let cut : segments_sum (without (t ∷ ts) tag) ≡ segments_of (length t.bytes) + segments_sum (without ts tag) =
+          ap segments_sum (without-past t ts tag ne) ∙ sum_by-cons (λ (t : Text). segments_of (length t.bytes)) t (without ts tag) in
+          omega arith
     ]
   where
     some_same : {x y : List ℕ} → Some x ≡ Some y → x ≡ y

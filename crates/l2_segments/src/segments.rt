@@ -107,7 +107,8 @@ impl Segments {
         ensures { IfSome (string_of self.now.texts tag) (λ bytes. (result ≡ length bytes) × (into.new ≡ bytes ++ drop (length bytes) into.old)) }
     {
         let string = self.held[index_of(&self.held, tag)];
-        read_part(&self.store, first_byte(string.start), string.len as usize, into);
+        let at = first_byte(string.start);
+        read_part(&self.store, at, string.len as usize, into);
         string.len
     }
 }

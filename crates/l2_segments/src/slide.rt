@@ -80,6 +80,7 @@ fn move_string(store: &mut [u8], string: &mut Held, to: u32)
     ensures changes { ChangesWithin (8 * to) string.old.len store.old store.new }
     ensures there { part (8 * to) string.old.len store.new ≡ part (8 * string.old.start) string.old.len store.old }
 {
-    move_part(store, first_byte(string.start), string.len as usize, first_byte(to));
+    let from = first_byte(string.start);
+    move_part(store, from, string.len as usize, first_byte(to));
     string.start = to;
 }

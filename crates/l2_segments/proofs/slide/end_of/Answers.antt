@@ -1,6 +1,5 @@
-use Rattle.std.proofs.Common.{◌≡◌, ◌*◌, ◌≤◌, ℕ, sym, arith, subst}
-use Rattle.l2_segments.specs.Held.{IsLaid}
-use Rattle.l2_segments.proofs.LaidLemmas.{laid_last, laid_none}
+use Rattle.std.proofs.Common.{sym, arith}
+use Rattle.l2_segments.proofs.LaidLemmas.{laid_last}
 use Rattle.l2_segments.proofs.slide.end_of.Goals as goal
 
 pub end-requires : goal.end-requires

@@ -1,8 +1,5 @@
-use Rattle.std.proofs.Common.{◌≡◌, ◌<◌, ◌≤◌, length, refl, sym, ap, ◌∙◌, subst, arith}
-use Rattle.l2_segments.specs.declared.held.Held.{Held}
-use Rattle.l2_segments.specs.Strings.{segments_of}
-use Rattle.l2_segments.proofs.SlideLemmas.{moved, slid_fits, slid_more, slid_all, IsSlid}
-use Rattle.std.proofs.Math.ListN.{set}
+use Rattle.std.proofs.Common.{◌<◌, length, refl, arith}
+use Rattle.l2_segments.proofs.SlideLemmas.{slid_fits, slid_more, slid_all}
 use Rattle.l2_segments.proofs.slide.slide.Goals as goal
 
 pub loop-string-init : goal.loop-string-init

@@ -1,7 +1,7 @@
-use Rattle.std.proofs.Common.{◌≡◌, ◌<◌, ◌≤◌, ◌*◌, ◌++◌, List, length, drop, sym, ap, ◌∙◌, subst, arith}
+use Rattle.std.proofs.Common.{◌*◌, ◌++◌, List, drop, sym, ap, ◌∙◌, arith}
 use Rattle.l2_segments.specs.declared.held.Held.{Held}
 use Rattle.l2_segments.specs.Parts.{part}
-use Rattle.l2_segments.specs.Held.{HasTag, held_at}
+use Rattle.l2_segments.specs.Held.{held_at}
 use Rattle.l2_segments.proofs.StoredLemmas.{used, string_at, bytes_inside, len_most, length-string}
 use Rattle.l2_segments.proofs.segments.Segments.get.Goals as goal
 
@@ -18,7 +18,7 @@ overflow_cast-string c =
 pub read_part-requires-clause-inside : goal.read_part-requires-clause-inside
 read_part-requires-clause-inside c =
     let at = rw c.deref-2.ensures.0 at c.index_of.ensures in
-    rw (c.first_byte.ensures, c.deref.ensures.0, c.deref-3.ensures.value) (bytes_inside c.self.invariant c.index_of.result at.inside)
+    rw (c.first_byte-at.ensures, c.deref.ensures.0, c.deref-3.ensures.value) (bytes_inside c.self.invariant c.index_of.result at.inside)
 
 pub read_part-requires-clause-most : goal.read_part-requires-clause-most
 read_part-requires-clause-most c =
@@ -30,8 +30,9 @@ returns c =
     let at = rw c.deref-2.ensures.0 at c.index_of.ensures in
     let place = held_at c.self.inside.held.items c.index_of.result in
     let size = length-string c.self.invariant c.index_of.result at.inside in
-    let copied = rw (c.first_byte.ensures, c.deref.ensures.0, c.deref-3.ensures.value) at c.read_part.ensures in
+    let copied = rw (c.first_byte-at.ensures, c.deref.ensures.0, c.deref-3.ensures.value) at c.read_part.ensures in
     rw (← c.self.view_is)
-    (rw (string_at c.self.inside.store.items c.self.inside.held.items c.args.tag c.index_of.result c.self.invariant.once at)
-    (ap (λ (hs : List Held). (held_at hs c.index_of.result).len) c.deref.ensures.0 ∙ sym size,
-    copied ∙ ap (λ n. part (8 * place.start) place.len c.self.inside.store.items ++ drop n c.args.into.now) (sym size)))
+    (rw (string_at c.self.inside.store.items c.self.inside.held.items c.args.tag c.index_of.result c.self.invariant.once at) (
+      ap (λ (hs : List Held). (held_at hs c.index_of.result).len) c.deref.ensures.0 ∙ sym size,
+      copied ∙ ap (λ n. part (8 * place.start) place.len c.self.inside.store.items ++ drop n c.args.into.now) (sym size),
+    ))

@@ -3,9 +3,8 @@ use Rattle.std.specs.Vec.{with_items}
 use Rattle.std.proofs.lemmas.List.{with_items_is}
 use Rattle.arrayvec.proofs.ArrayVecLemmas.{items-with_items}
 use Rattle.l2_segments.specs.declared.held.Held.{Held}
-use Rattle.l2_segments.specs.Parts.{part, ChangesWithin}
 use Rattle.l2_segments.specs.Strings.{segments_of, string_of, with_texts, with_one_more}
-use Rattle.l2_segments.specs.Held.{texts_of, segments_in, IsLaid, IsStored}
+use Rattle.l2_segments.specs.Held.{texts_of, IsStored}
 use Rattle.l2_segments.proofs.TextLemmas.{string_of-one_more, string_of-one_more_other}
 use Rattle.l2_segments.proofs.StoredLemmas.{few_places, stored_placed, segments_sum-texts}
 use Rattle.l2_segments.proofs.segments.Segments.place.Goals as goal

@@ -1,6 +1,6 @@
 use Rattle.std.proofs.Common.{◌≡◌, ◌∙◌, sym, ap}
-use Rattle.l2_segments.specs.Strings.{string_of, without}
-use Rattle.l2_segments.specs.Held.{texts_of, HasTag}
+use Rattle.l2_segments.specs.Strings.{without}
+use Rattle.l2_segments.specs.Held.{texts_of}
 use Rattle.l2_segments.proofs.TextLemmas.{string_of-without, string_of-without_other}
 use Rattle.l2_segments.proofs.StoredLemmas.{used, without_at, stored_removed, room_freed}
 use Rattle.l2_segments.proofs.segments.Segments.remove.Goals as goal

@@ -1,4 +1,4 @@
-use Rattle.std.proofs.Common.{◌≡◌, ◌-◌, ◌*◌, length, sym, ap, ◌∙◌, arith}
+use Rattle.std.proofs.Common.{◌-◌, ◌*◌, length, sym, ap, ◌∙◌, arith}
 use Rattle.l2_segments.specs.Held.{segments_in}
 use Rattle.l2_segments.proofs.LaidLemmas.{laid_fits}
 use Rattle.l2_segments.proofs.StoredLemmas.{stored_sound, segments_sum-texts}
