@@ -15,7 +15,7 @@ use std::marker::Model;
 const MOST_STRINGS: usize = 32;
 
 /// Strings of 1 to 64 bytes, each under a tag of its own, in the bytes of so many whole lines. A string takes whole
-/// segments of 8 bytes, in a row. Those in use stand in the order in which they were put there.
+/// segments of 8 bytes, in a row. The strings stand in the order in which they were put there.
 #[derive(Drop)]
 pub struct Segments {
     ways: u32,
@@ -95,7 +95,8 @@ impl Segments {
         // By tags: none stands under this one, each other string as before, and the segments of this one are free.
         ensures absent { string_of self.new.texts tag ≡ None }
         ensures others { (other : ℕ) → other ≢ tag → string_of self.new.texts other ≡ string_of self.old.texts other }
-        ensures freed { IfSome (string_of self.old.texts tag) (λ bytes. room_of self.new ≡ room_of self.old + segments_of (length bytes)) }
+        ensures freed { IfSome (string_of self.old.texts tag)
+            (λ bytes. room_of self.new ≡ room_of self.old + segments_of (length bytes)) }
     {
         let index = index_of(&self.held, tag);
         self.held.remove(index);
@@ -104,7 +105,8 @@ impl Segments {
     /// Copies the string under a tag to the front of a line, and tells how many bytes it has.
     pub fn get(&self, tag: u8, into: &mut [u8; 64]) -> u8
         requires { is_some (string_of self.now.texts tag) ≡ true }
-        ensures { IfSome (string_of self.now.texts tag) (λ bytes. (result ≡ length bytes) × (into.new ≡ bytes ++ drop (length bytes) into.old)) }
+        ensures { IfSome (string_of self.now.texts tag)
+            (λ bytes. (result ≡ length bytes) × (into.new ≡ bytes ++ drop (length bytes) into.old)) }
     {
         let string = self.held[index_of(&self.held, tag)];
         let at = first_byte(string.start);
