@@ -1,0 +1,5 @@
+pub mod LaidLemmas
+pub mod PartLemmas
+pub mod SlideLemmas
+pub mod StoredLemmas
+pub mod TextLemmas
