@@ -1,3 +1,4 @@
+pub mod Packed
 pub mod Room
 pub mod SecondLevel
 pub mod Turns

@@ -11,7 +11,7 @@ pub struct Entry {
 
 /// The mark of a slot: the number of its line, and whether its bytes differ from those below.
 #[derive(Clone, Copy)]
-pub(crate) struct Tag {
-    pub(crate) line: u32,
-    pub(crate) dirty: bool,
+pub struct Tag {
+    pub line: u32,
+    pub dirty: bool,
 }

@@ -13,6 +13,8 @@ mod storage;
 #[cfg(test)]
 mod tests;
 
-pub use entry::Entry;
+pub use entry::{Entry, Tag};
 pub use line_sets::LineSets;
 pub use order::Order;
+pub use slots::{last_dirty_slot, slot_of, slot_to_fill};
+pub use storage::{mark, set_tag, tag_of};

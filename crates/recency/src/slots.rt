@@ -9,7 +9,7 @@ use crate::order::Order;
 use crate::storage::tag_of;
 
 /// The slot in use that has the line.
-pub(crate) fn slot_of(order: &Order, tags: &Vec<Tag>, ways: u32, line: u32) -> Option<u32>
+pub fn slot_of(order: &Order, tags: &Vec<Tag>, ways: u32, line: u32) -> Option<u32>
     requires ways { ways ≡ order.now.ways }
     requires tagged { IsTagged order.now tags.now.items }
     ensures { IsSlotOf order.now.slots tags.now.items line result }
@@ -34,7 +34,7 @@ pub(crate) fn first_slot(order: &Order) -> u32
 }
 
 /// A slot for one more line: one that is not in use, or else the least recent.
-pub(crate) fn slot_to_fill(order: &Order, ways: u32) -> u32
+pub fn slot_to_fill(order: &Order, ways: u32) -> u32
     requires ways { ways ≡ order.now.ways }
     requires some { 0 < ways }
     requires distinct { IsDistinct order.now.slots }
@@ -67,7 +67,7 @@ fn unused_slot(order: &Order, ways: u32) -> u32
 }
 
 /// The least recent dirty slot.
-pub(crate) fn last_dirty_slot(order: &Order, tags: &Vec<Tag>) -> Option<u32>
+pub fn last_dirty_slot(order: &Order, tags: &Vec<Tag>) -> Option<u32>
     requires { IsTagged order.now tags.now.items }
     ensures inside { IfSome result (λ slot. slot < order.now.ways) }
     ensures entry { (bytes : List (List ℕ)) → last_dirty (entries_of tags.now.items bytes order.now.slots) ≡ option_map (entry_at tags.now.items bytes) result }

@@ -6,7 +6,7 @@ use crate::entry::{Entry, Tag};
 use hier_types::Line;
 
 /// The tag of a slot.
-pub(crate) fn tag_of(tags: &Vec<Tag>, slot: u32) -> Tag
+pub fn tag_of(tags: &Vec<Tag>, slot: u32) -> Tag
     requires { slot < length tags.now.items }
     ensures { result ≡ tag_at tags.now.items slot }
 {
@@ -29,7 +29,7 @@ pub(crate) fn entry_in(tags: &Vec<Tag>, bytes: &Vec<Line>, slot: u32) -> Entry
 }
 
 /// Gives a slot its line, dirty or clean.
-pub(crate) fn set_tag(tags: &mut Vec<Tag>, slot: u32, line: u32, dirty: bool)
+pub fn set_tag(tags: &mut Vec<Tag>, slot: u32, line: u32, dirty: bool)
     requires { slot < length tags.old.items }
     ensures { tags.new.items ≡ slice_set tags.old.items slot (record { line = line; dirty = dirty }) }
 {
@@ -37,7 +37,7 @@ pub(crate) fn set_tag(tags: &mut Vec<Tag>, slot: u32, line: u32, dirty: bool)
 }
 
 /// Marks a slot's line as dirty or clean.
-pub(crate) fn mark(tags: &mut Vec<Tag>, slot: u32, dirty: bool)
+pub fn mark(tags: &mut Vec<Tag>, slot: u32, dirty: bool)
     requires { slot < length tags.old.items }
     ensures { tags.new.items ≡ slice_set tags.old.items slot (record { line = (tag_at tags.old.items slot).line; dirty = dirty }) }
 {
