@@ -13,8 +13,7 @@ use hier_types::{Failed, Sink, Totals};
 /// Writes how many pages there are, how many of them are zeros, and what the others take. Each line is one write, and
 /// after one that failed there is no other: then a front of the text stands on the output.
 pub fn write_survey<O: Sink>(totals: &Totals, out: &mut O) -> Result<(), Failed>
-    requires pages { totals.now.zero + lines.pages_of totals.now ≤ 16384 }
-    requires blocks { lines.HasBlocks totals.now }
+    requires { lines.HasBlocks totals.now }
     ensures ok { OnOk result (Appends (O.written out.old) (O.written out.new) (lines.survey_text totals.now)) }
     ensures err { OnErr result (AppendsFront (O.written out.old) (O.written out.new) (lines.survey_text totals.now)) }
     ensures cause { HasCause (O.faults out.old) (O.faults out.new) result }
