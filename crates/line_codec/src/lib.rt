@@ -3,10 +3,12 @@
 //! slot lies, or looks past the encoding in it.
 #![tactic(auto)]
 
+mod payloads;
 mod sizes;
 mod slots;
 #[cfg(test)]
 mod tests;
 
+pub use payloads::{Form, Packed, pack, unpack};
 pub use sizes::{size, stored_size};
 pub use slots::{from_slot, to_slot};
