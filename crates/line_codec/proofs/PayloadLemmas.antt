@@ -1,5 +1,5 @@
 -- What a payload says in a form.
-use Rattle.std.proofs.Common.{◌≡◌, ℕ, suc, ◌+◌, ◌*◌, ◌/◌, ◌%◌, ◌^◌, ◌==◌, ◌&&◌, nat_lt, if◌then◌else◌, List, [], ◌∷◌, ◌++◌, take, drop, length, replicate, min, false, Some, None, inl, inr, refl, sym, ap, ◌∙◌, arith}
+use Rattle.std.proofs.Common.{◌≡◌, ℕ, suc, ◌+◌, ◌*◌, ◌/◌, ◌^◌, ◌==◌, ◌&&◌, nat_lt, List, [], ◌∷◌, take, drop, length, replicate, min, false, Some, None, inl, inr, refl, sym, subst, ap, ◌∙◌, arith}
 use Rattle.std.specs.List.{concat, flat_map}
 use Rattle.std.proofs.lemmas.Bool.{cases_Bool, eqb-true}
 use Rattle.std.proofs.lemmas.Bool.Decides.{nat_tests}
@@ -26,6 +26,10 @@ unfolding line_of SaysLine
 line_of-says Plain payload line says = says.0
 line_of-says (Deltas row mask) payload line says = rw says refl
 line_of-says Patterns payload line says = line_said-means payload line says
+
+-- so it says that one
+pub says_line_of : (form : Form) (payload line : List ℕ) → SaysLine form payload line → SaysLine form payload (line_of form payload)
+says_line_of form payload line says = subst (λ (l : List ℕ). SaysLine form payload l) (sym (line_of-says form payload line says)) says
 
 length-restored_all : (values half base mask : ℕ) (lows : List ℕ) → length (restored_all values half base mask lows) ≡ length lows
 length-restored_all values half base mask [] = refl

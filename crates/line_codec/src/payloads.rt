@@ -92,7 +92,7 @@ fn read(form: Form, payload: &[u8]) -> Option<[u8; 64]>
     ensures { (line : List ℕ) → SaysLine form payload.now line → result ≡ Some line }
 {
     match form {
-        Form::Plain => payload.first_chunk::<64>().copied(),
+        Form::Plain => payload.as_array::<64>().copied(),
         Form::Deltas { row, mask } => bdi_decode(row, mask, payload),
         Form::Patterns => fpc_decode(payload),
     }

@@ -1,7 +1,6 @@
-use Rattle.std.proofs.Common.{◌≡◌, length, sym, ap, ◌∙◌, rules}
+use Rattle.std.proofs.Common.{◌≡◌, length, ap, ◌∙◌, rules}
 use Rattle.hier_types.specs.declared.settings.Codec.TheVariants.{Bdi, Fpc}
 use Rattle.bdi_codec.proofs.BytesLemmas.{AreBytes}
-use Rattle.line_codec.specs.Slots.{size_under}
 use Rattle.line_codec.proofs.PayloadLemmas.{length-payload_under, payload_under-says}
 use Rattle.line_codec.proofs.payloads.pack.Goals as goal
 

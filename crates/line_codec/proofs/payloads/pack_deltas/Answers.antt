@@ -4,8 +4,10 @@ use Rattle.bdi_codec.specs.Rows.{size_of, least_row}
 use Rattle.line_codec.proofs.SlotLemmas.{size_of-past, size_of-header}
 use Rattle.line_codec.proofs.payloads.pack_deltas.Goals as goal
 
-not_64 : (size : ℕ) → size ≤ 40 → (size == 64) ≡ false
-not_64 size below = grind (arith, nat_tests)
+short_row : (row : ℕ) → row ≤ 7 → (size_of row == 64) ≡ false
+short_row row header =
+    let size = (size_of-header row header).0 in
+    grind (arith, nat_tests)
 
 pub returns-then-coded-gt-LAST_ROW-clause-form : goal.returns-then-coded-gt-LAST_ROW-clause-form
 returns-then-coded-gt-LAST_ROW-clause-form c =
@@ -25,12 +27,12 @@ pub returns-clause-form : goal.returns-clause-form
 returns-clause-form c =
     let coded = c.bdi_encode-coded in
     let short : (size_of (least_row c.args.line.now) == 64) ≡ false =
-    rw coded.ensures.row at (not_64 (size_of coded.result.row) (size_of-header coded.result.row c.if-coded-gt-LAST_ROW.false).0) in
+    rw coded.ensures.row at (short_row coded.result.row c.if-coded-gt-LAST_ROW.false) in
     rw (short, coded.ensures.mask, coded.ensures.row) refl
 
 pub returns-clause-payload : goal.returns-clause-payload
 returns-clause-payload c =
     let coded = c.bdi_encode-coded in
     let short : (size_of (least_row c.args.line.now) == 64) ≡ false =
-    rw coded.ensures.row at (not_64 (size_of coded.result.row) (size_of-header coded.result.row c.if-coded-gt-LAST_ROW.false).0) in
+    rw coded.ensures.row at (short_row coded.result.row c.if-coded-gt-LAST_ROW.false) in
     rw (short, coded.ensures.payload, coded.ensures.row) refl
