@@ -1,37 +1,28 @@
 -- Codes and the bits that they are.
-use Rattle.std.proofs.Common.{◌≡◌, ℕ, ◌<◌, ◌==◌, if◌then◌else◌, refl, sym, ap, ◌∙◌, arith}
+use Rattle.std.proofs.Common.{◌≡◌, ℕ, ◌<◌, refl, sym, ap, ◌∙◌, arith}
 use Rattle.fpc_codec.specs.declared.codes.Code.{Code}
 use Rattle.fpc_codec.specs.declared.codes.Pattern.{Pattern}
 use Rattle.fpc_codec.specs.declared.codes.Pattern.TheVariants.{ZeroRun, Signed4, Signed8, Signed16, PaddedHalf, TwoSignedBytes, RepeatedByte, Uncompressed}
 use Rattle.fpc_codec.specs.Bits.{joined}
 use Rattle.fpc_codec.specs.Codes.{prefix_of, payload_bits, run_of, IsCode, code_row}
+use Rattle.fpc_codec.specs.Reading.{pattern_of}
 use Rattle.fpc_codec.proofs.RowLemmas.{same_joined}
 
-pattern_at : ℕ → Pattern
-pattern_at n =
-    if n == 0 then ZeroRun
-    else if n == 1 then Signed4
-    else if n == 2 then Signed8
-    else if n == 3 then Signed16
-    else if n == 4 then PaddedHalf
-    else if n == 5 then TwoSignedBytes
-    else if n == 6 then RepeatedByte
-    else Uncompressed
-
-pattern_at-prefix_of : (pattern : Pattern) → pattern_at (prefix_of pattern) ≡ pattern
-unfolding prefix_of pattern_at
-pattern_at-prefix_of ZeroRun = refl
-pattern_at-prefix_of Signed4 = refl
-pattern_at-prefix_of Signed8 = refl
-pattern_at-prefix_of Signed16 = refl
-pattern_at-prefix_of PaddedHalf = refl
-pattern_at-prefix_of TwoSignedBytes = refl
-pattern_at-prefix_of RepeatedByte = refl
-pattern_at-prefix_of Uncompressed = refl
+-- a pattern has its own prefix
+pub pattern_of-prefix_of : (pattern : Pattern) → pattern_of (prefix_of pattern) ≡ pattern
+unfolding prefix_of pattern_of
+pattern_of-prefix_of ZeroRun = refl
+pattern_of-prefix_of Signed4 = refl
+pattern_of-prefix_of Signed8 = refl
+pattern_of-prefix_of Signed16 = refl
+pattern_of-prefix_of PaddedHalf = refl
+pattern_of-prefix_of TwoSignedBytes = refl
+pattern_of-prefix_of RepeatedByte = refl
+pattern_of-prefix_of Uncompressed = refl
 
 -- a prefix belongs to one pattern
 pub same_pattern : (pattern other : Pattern) → prefix_of pattern ≡ prefix_of other → pattern ≡ other
-same_pattern pattern other e = sym (pattern_at-prefix_of pattern) ∙ ap pattern_at e ∙ pattern_at-prefix_of other
+same_pattern pattern other e = sym (pattern_of-prefix_of pattern) ∙ ap pattern_of e ∙ pattern_of-prefix_of other
 
 pub prefix_of-lt : (pattern : Pattern) → prefix_of pattern < 8
 unfolding prefix_of

@@ -5,4 +5,5 @@ pub mod FrontLemmas
 pub mod LeastLemmas
 pub mod LineLemmas
 pub mod PackLemmas
+pub mod ReadingLemmas
 pub mod RowLemmas

@@ -4,7 +4,7 @@ use Rattle.std.specs.Int.{from_le_bytes, to_le_bytes}
 use Rattle.std.proofs.lemmas.List.{append_assoc, append-nil, take_more}
 use Rattle.std.proofs.lemmas.List.Elements.{All-nil, All-cons}
 use Rattle.std.proofs.lemmas.Nat.{le_bytes_4}
-use Rattle.fpc_codec.specs.Line.{words_of, line_of}
+use Rattle.fpc_codec.specs.Line.{words_of, line_of, Means}
 
 line_of-append : (xs ys : List ℕ) → line_of (xs ++ ys) ≡ line_of xs ++ line_of ys
 unfolding line_of
@@ -60,3 +60,12 @@ words_of-lt (a ∷ b ∷ c ∷ []) below = All-nil (λ word. word < 2 ^ 32)
 words_of-lt (a ∷ b ∷ c ∷ d ∷ rest) below =
     All-cons (λ word. word < 2 ^ 32) (from_le_bytes w32 (a ∷ b ∷ c ∷ d ∷ [])) (words_of rest) (omega (arith, below 0, below 1, below 2, below 3))
     (words_of-lt rest (λ i. below (suc (suc (suc (suc i))))))
+
+length-line_of : (words : List ℕ) → length (line_of words) ≡ 4 * length words
+unfolding line_of
+length-line_of [] = refl
+length-line_of (word ∷ words) = omega (arith, length-line_of words)
+
+-- bytes mean only lines of 64 bytes
+pub length-Means : (bytes line : List ℕ) → Means bytes line → length line ≡ 64
+length-Means bytes line means = omega (arith, ap length means.says, length-line_of means.words, means.sixteen)

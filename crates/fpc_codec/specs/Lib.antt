@@ -2,3 +2,4 @@ pub mod Bits
 pub mod Codes
 pub mod Least
 pub mod Line
+pub mod Reading

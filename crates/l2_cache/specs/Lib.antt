@@ -1,4 +1,5 @@
 pub mod Packed
+pub mod PackedLines
 pub mod Room
 pub mod SecondLevel
 pub mod Turns

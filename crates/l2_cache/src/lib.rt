@@ -5,6 +5,7 @@
 
 mod clean;
 mod l2;
+mod packed_lines;
 mod room_sets;
 #[cfg(test)]
 mod tests;

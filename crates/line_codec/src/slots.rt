@@ -9,7 +9,7 @@ use fpc_codec::{fpc_decode, fpc_encode};
 use hier_types::Codec;
 
 /// The rows of base-delta-immediate that shorten a line go up to here, and each is its slots' header.
-const LAST_ROW: u8 = 7;
+pub const LAST_ROW: u8 = 7;
 
 /// The header of frequent patterns.
 const PATTERNS_HEADER: u8 = 8;

@@ -48,15 +48,20 @@ fn pattern_run() -> [u8; 64] {
     line_of(words)
 }
 
+// One element of eight bytes again and again.
+fn repeated() -> [u8; 64] {
+    let mut words = [0x5566_7788; 16];
+    for place in 0..8usize {
+        words[2 * place + 1] = 0x1122_3344;
+    }
+    line_of(words)
+}
+
 #[test]
 fn sizes_under_base_delta_immediate(rt: HostRuntime) {
-    let mut repeated = [0x5566_7788; 16];
-    for place in 0..8usize {
-        repeated[2 * place + 1] = 0x1122_3344;
-    }
     for (line, bytes, stored) in [
         ([0; 64], 1, Some(2)),
-        (line_of(repeated), 8, Some(9)),
+        (repeated(), 8, Some(9)),
         (rising(0x0001_0000, 4), 20, Some(23)),
         (all_but_one(0x1000, 0x107f), 16, Some(18)),
         (all_but_one(0x1000, 0x1080), 24, Some(26)),
@@ -79,6 +84,29 @@ fn sizes_under_frequent_patterns(rt: HostRuntime) {
     ] {
         assert_eq!(rt; size(Codec::Fpc, &line), bytes);
         assert_eq!(rt; stored_size(Codec::Fpc, &line), stored);
+    }
+}
+
+#[test]
+#[tactic(auto, using(crate::proofs::PayloadLemmas::says_line_of))]
+fn payloads_and_their_forms(rt: HostRuntime) {
+    let rising_words = rising(0x0001_0000, 4);
+    let plain = rising(0x0123_4567, 0x0123_4567);
+    let mask = 0xffff;
+    for (codec, line, form, bytes) in [
+        (Codec::Bdi, [0; 64], Form::Deltas { row: 0, mask: 0 }, 1),
+        (Codec::Bdi, repeated(), Form::Deltas { row: 1, mask: 0 }, 8),
+        (Codec::Bdi, rising_words, Form::Deltas { row: 5, mask }, 20),
+        (Codec::Bdi, plain, Form::Plain, 64),
+        (Codec::Fpc, [0; 64], Form::Patterns, 2),
+        (Codec::Fpc, repeated(), Form::Plain, 64),
+        (Codec::Fpc, rising_words, Form::Patterns, 38),
+        (Codec::Fpc, plain, Form::Plain, 64),
+    ] {
+        let packed = pack(codec, &line);
+        assert_eq!(rt; packed.form, form);
+        assert_eq!(rt; packed.payload.len(), bytes);
+        assert_eq!(rt; unpack(packed.form, packed.payload.as_slice()), line);
     }
 }
 
