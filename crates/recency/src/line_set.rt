@@ -1,8 +1,7 @@
 // A set of lines.
 ghost use Rattle.std.specs.Prelude.{◌≡◌, ◌<◌, [], true, false, None, length, is_some, slice_get, slice_index, IfOk, IfSome, MatchOption};
 ghost use Rattle.hier_types.specs.Settings.{IsWithin};
-ghost use Rattle.recency.specs.Uses.{last_of};
-ghost use Rattle.recency.specs.Kept.{entry_of, without, touched, put_in, dirty_victim, clean_last, last_dirty, clean_in, overwritten, poked, with_lines};
+ghost use Rattle.recency.specs.Kept.{clean_entry, entry_of, touched, put_in, dirty_victim, clean_last, last_dirty, clean_in, overwritten, poked, with_lines};
 
 use crate::entry::{Entry, Tag};
 use crate::order::Order;
@@ -90,57 +89,13 @@ impl LineSet {
         true
     }
 
-    /// What is kept of a line. The order of use stays.
-    pub(crate) fn entry(&self, line: u32) -> Option<Entry>
-        ensures { result ≡ entry_of self.now.lines line }
-    {
-        let Some(slot) = slot_of(&self.order, &self.tags, self.ways, line) else {
-            return None;
-        };
-        Some(entry_in(&self.tags, &self.bytes, slot))
-    }
-
-    /// How many lines are kept.
-    pub(crate) fn len(&self) -> u32
-        ensures { result ≡ length self.now.lines }
-    {
-        self.order.len()
-    }
-
-    /// The least recent line but this one.
-    pub(crate) fn oldest_other(&self, line: u32) -> Option<Entry>
-        ensures { result ≡ last_of (without self.now.lines line) }
-    {
-        let Some(last) = self.order.last() else {
-            return None;
-        };
-        if tag_of(&self.tags, last).line != line {
-            return Some(entry_in(&self.tags, &self.bytes, last));
-        }
-        let Some(slot) = self.order.before(last) else {
-            return None;
-        };
-        Some(entry_in(&self.tags, &self.bytes, slot))
-    }
-
-    /// The line is no longer kept.
-    pub(crate) fn remove(&mut self, line: u32)
-        ensures after { self.new ≡ with_lines self.old (without self.old.lines line) }
-        ensures absent { entry_of self.new.lines line ≡ None }
-    {
-        let Some(slot) = slot_of(&self.order, &self.tags, self.ways, line) else {
-            return;
-        };
-        self.order.drop_slot(slot);
-    }
-
-    /// Puts a line in front that is not kept, in place of the least recent where the set is full.
-    pub(crate) fn put_in(&mut self, line: u32, bytes: &Line, dirty: bool)
+    /// Puts a clean line in front that is not kept, in place of the least recent where the set is full.
+    pub(crate) fn put_in(&mut self, line: u32, bytes: &Line)
         requires { entry_of self.old.lines line ≡ None }
-        ensures { self.new ≡ with_lines self.old (put_in self.old (record { line = line; bytes = bytes.now; dirty = dirty })) }
+        ensures { self.new ≡ with_lines self.old (put_in self.old (clean_entry line bytes.now)) }
     {
         let slot = slot_to_fill(&self.order, self.ways);
-        set_tag(&mut self.tags, slot, line, dirty);
+        set_tag(&mut self.tags, slot, line, false);
         copy_in(&mut self.bytes, slot, bytes);
         self.order.use_slot(slot);
     }

@@ -1,8 +1,7 @@
 // The sets of a level.
-ghost use Rattle.std.specs.Prelude.{◌≡◌, ◌<◌, ◌%◌, ℕ, [], ◌∷◌, true, false, None, length, is_some, replicate, slice_get, slice_index, IfOk, IfSome, MatchOption};
+ghost use Rattle.std.specs.Prelude.{◌≡◌, ◌<◌, ◌%◌, ℕ, [], true, false, None, length, is_some, replicate, slice_get, slice_index, IfOk, IfSome, MatchOption};
 ghost use Rattle.hier_types.specs.Settings.{IsWithin, IsPowerOfTwo};
-ghost use Rattle.recency.specs.Uses.{last_of};
-ghost use Rattle.recency.specs.Kept.{with_lines, without, touched, put_in, dirty_victim, clean_last, last_dirty, clean_entry, overwritten, poked};
+ghost use Rattle.recency.specs.Kept.{touched, put_in, dirty_victim, clean_last, last_dirty, clean_entry, overwritten, poked};
 ghost use Rattle.recency.specs.Levels.{set_at, set_of, with_set, kept_of, IsMasked};
 ghost use Rattle.recency.specs.Steps.{next_dirty, with_clean};
 
@@ -52,15 +51,6 @@ fn index_of(sets: &Vec<LineSet>, mask: u32, line: u32) -> u32
     line & mask
 }
 
-/// Puts an entry in front of a set, in place of an older one of its line, where there is room.
-fn put_before(set: &mut LineSet, entry: &Entry)
-    requires { length (without set.old.lines entry.now.line) < set.old.ways }
-    ensures { set.new ≡ with_lines set.old (entry.now ∷ without set.old.lines entry.now.line) }
-{
-    set.remove(entry.line);
-    set.put_in(entry.line, &entry.bytes, entry.dirty);
-}
-
 impl LineSets {
     /// Sets with no line: `sets` of them, a power of two up to 4,096, of 1 to 1,024 lines each.
     pub fn new(alloc: Global, sets: u32, ways: u32) -> Result<LineSets, NoMemory>
@@ -97,64 +87,7 @@ impl LineSets {
         ensures { self.new ≡ with_set self.old line (put_in (set_of self.old line) (clean_entry line bytes.now)) }
     {
         let index = index_of(&self.sets, self.mask, line);
-        self.sets[index as usize].put_in(line, bytes, false);
-    }
-
-    /// Puts an entry in front of its set, in place of an older one of its line, where there is room.
-    pub fn put_front(&mut self, entry: &Entry)
-        requires { length (without (set_of self.old entry.now.line).lines entry.now.line) < (set_of self.old entry.now.line).ways }
-        ensures { self.new ≡ with_set self.old entry.now.line (entry.now ∷ without (set_of self.old entry.now.line).lines entry.now.line) }
-    {
-        let index = index_of(&self.sets, self.mask, entry.line);
-        let set = &mut self.sets[index as usize];
-        put_before(set, entry);
-    }
-
-    /// A line leaves the set of a line.
-    pub fn remove_from(&mut self, line: u32, other: u32)
-        ensures { self.new ≡ with_set self.old line (without (set_of self.old line).lines other) }
-    {
-        let index = index_of(&self.sets, self.mask, line);
-        self.sets[index as usize].remove(other);
-    }
-
-    /// What is kept of a line. The order of use stays.
-    pub fn entry(&self, line: u32) -> Option<Entry>
-        ensures { result ≡ kept_of self.now line }
-    {
-        let index = index_of(&self.sets, self.mask, line);
-        self.sets[index as usize].entry(line)
-    }
-
-    /// How many lines the set of a line keeps.
-    pub fn len_of(&self, line: u32) -> u32
-        ensures { result ≡ length (set_of self.now line).lines }
-    {
-        let index = index_of(&self.sets, self.mask, line);
-        self.sets[index as usize].len()
-    }
-
-    /// The least recent line of the set of a line but itself.
-    pub fn oldest_other(&self, line: u32) -> Option<Entry>
-        ensures { result ≡ last_of (without (set_of self.now line).lines line) }
-    {
-        let index = index_of(&self.sets, self.mask, line);
-        self.sets[index as usize].oldest_other(line)
-    }
-
-    /// The least recent dirty line of a set.
-    pub fn last_dirty(&self, set: u32) -> Option<Entry>
-        requires { set < length self.now }
-        ensures { result ≡ last_dirty (set_at self.now set).lines }
-    {
-        self.sets[set as usize].last_dirty()
-    }
-
-    /// The number of sets.
-    pub fn count(&self) -> u32
-        ensures { result ≡ length self.now }
-    {
-        self.mask + 1
+        self.sets[index as usize].put_in(line, bytes);
     }
 
     /// The line of the same set that is to be written below before this one is put in.
