@@ -1,2 +1,3 @@
 pub mod LeaveLemmas
 pub mod RoomLemmas
+pub mod SetLemmas

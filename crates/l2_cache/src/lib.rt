@@ -5,6 +5,8 @@
 
 mod clean;
 mod l2;
+mod packed_lines;
+mod packed_set;
 mod room_sets;
 #[cfg(test)]
 mod tests;
