@@ -1,5 +1,5 @@
 -- What a set of packed lines keeps, when a slot is used, filled, emptied or marked.
-use Rattle.std.proofs.Common.{◌≡◌, ◌≢◌, ◌<◌, ◌≤◌, ◌+◌, ◌*◌, ℕ, Bool, true, false, List, [], ◌∷◌, Option, Some, None, length, length-set, set, get_or, refl, sym, ap, ◌∙◌, subst, arith, if◌then◌else◌, nat_lt, get_or-set_same, get_or-set_other}
+use Rattle.std.proofs.Common.{◌≡◌, ◌≢◌, ◌<◌, ◌+◌, ◌*◌, ℕ, Bool, true, false, List, [], ◌∷◌, Option, Some, None, length, length-set, set, get_or, refl, sym, ap, ◌∙◌, subst, arith, if◌then◌else◌, nat_lt, get_or-set_same, get_or-set_other}
 use Rattle.std.specs.Option.{IfSome}
 use Rattle.std.proofs.lemmas.Bool.{lt-ltb}
 use Rattle.hier_types.specs.declared.settings.Codec.{Codec}
@@ -7,8 +7,8 @@ use Rattle.line_codec.specs.Slots.{size_under}
 use Rattle.recency.specs.declared.entry.Entry.{Entry}
 use Rattle.recency.specs.declared.entry.Tag.{Tag}
 use Rattle.recency.specs.Uses.{Used, has, removed, but_last}
-use Rattle.recency.specs.Kept.{entry_of, without, touched, clean_in, last_dirty_from}
-use Rattle.recency.specs.Slots.{tag_at, entry_at, entries_of, IsStored}
+use Rattle.recency.specs.Kept.{entry_of, last_dirty_from}
+use Rattle.recency.specs.Slots.{tag_at, entry_at, entries_of}
 use Rattle.recency.proofs.UseLemmas.{by_eq, has_front, has_past, has_apart, has-removed, has-removed_other}
 use Rattle.recency.proofs.SlotLemmas.{entries_same}
 use Rattle.recency.proofs.StoreLemmas.{after_use, clean_tag, bytes_within, tag_within, found_entry, found_touched, found_without, stored_used, stored_dropped, stored_filled, filled_is, cleaned_slot, entries_count}

@@ -1,4 +1,5 @@
 pub mod Packed
+pub mod PackedLines
 pub mod PackedSet
 pub mod Room
 pub mod SecondLevel

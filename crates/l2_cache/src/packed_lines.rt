@@ -19,12 +19,15 @@ pub(crate) struct PackedLines {
 }
 
 impl Model for PackedLines {
-    ghost use Rattle.std.specs.Prelude.{List, ℕ, [], map, unwrap_or};
+    ghost use Rattle.std.specs.Prelude.{map};
     ghost use Rattle.l2_cache.specs.Packed.{Packed};
+    ghost use Rattle.l2_cache.specs.PackedLines.{plain, ArePacked};
 
     ghost Value = { Packed };
 
-    ghost view = { λ a. record { codec = a.codec; lines = map (λ slot. unwrap_or slot []) a.slots.items; room = a.room } };
+    ghost view = { λ a. record { codec = a.codec; lines = map plain a.slots.items; room = a.room } };
+
+    ghost invariant = { λ a. ArePacked a.codec a.slots.items a.room };
 }
 
 impl PackedLines {
@@ -78,9 +81,10 @@ impl PackedLines {
         ensures room { self.new.room ≡ self.old.room + segments (size_under self.old.codec) (line_at self.old.lines slot) }
         ensures codec { self.new.codec ≡ self.old.codec }
     {
-        if let Some(bytes) = self.slots[slot as usize] {
-            self.room += (size(self.codec, &bytes) as u32 + 7) / 8;
-        }
+        let Some(bytes) = self.slots[slot as usize] else {
+            unreachable!();
+        };
+        self.room += (size(self.codec, &bytes) as u32 + 7) / 8;
         self.slots[slot as usize] = None;
     }
 }

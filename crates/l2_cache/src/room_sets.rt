@@ -47,12 +47,7 @@ fn segments_of(codec: Codec, bytes: &Line) -> u32
 }
 
 /// So many sets with no line.
-fn empty_sets(
-    alloc: Global,
-    codec: Codec,
-    sets: u32,
-    ways: u32,
-) -> Result<Vec<PackedSet>, NoMemory>
+fn empty_sets(alloc: Global, codec: Codec, sets: u32, ways: u32) -> Result<Vec<PackedSet>, NoMemory>
     requires { IsWithin 1 16 ways }
     ensures { IfOk result (λ made. made.items ≡ replicate sets (record { codec = codec; kept = record { ways = 2 * ways; lines = [] } })) }
 {

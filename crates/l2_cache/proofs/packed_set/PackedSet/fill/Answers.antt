@@ -1,6 +1,5 @@
-use Rattle.std.proofs.Common.{◌≡◌, ◌<◌, ◌∙◌, ◌∷◌, None, length, ap, set}
+use Rattle.std.proofs.Common.{◌∙◌, ◌∷◌, ap, set}
 use Rattle.recency.specs.Uses.{Used, removed}
-use Rattle.recency.specs.Kept.{entry_of}
 use Rattle.recency.specs.Slots.{entries_of}
 use Rattle.l2_cache.proofs.SetLemmas.{same_set, bare_slot, packed_filled, filled_entries}
 use Rattle.l2_cache.proofs.packed_set.PackedSet.fill.Goals as goal

@@ -1,6 +1,4 @@
-use Rattle.std.proofs.Common.{◌∙◌, ap, refl}
-use Rattle.recency.specs.Uses.{Used, removed}
-use Rattle.recency.specs.Slots.{entries_of}
+use Rattle.std.proofs.Common.{◌∙◌, refl}
 use Rattle.recency.proofs.SlotLemmas.{slot_none}
 use Rattle.recency.proofs.StoreLemmas.{used_below, none_left, found_without, none_without}
 use Rattle.l2_cache.proofs.SetLemmas.{same_set, packed_dropped, others_left}

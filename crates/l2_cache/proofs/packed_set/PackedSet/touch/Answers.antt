@@ -1,4 +1,4 @@
-use Rattle.std.proofs.Common.{ap, refl}
+use Rattle.std.proofs.Common.{refl}
 use Rattle.recency.proofs.SlotLemmas.{slot_none}
 use Rattle.recency.proofs.StoreLemmas.{used_below, found_entry, found_touched, none_touched}
 use Rattle.l2_cache.proofs.SetLemmas.{same_set, packed_used}

@@ -1,8 +1,7 @@
-use Rattle.std.proofs.Common.{◌≡◌, ◌≤◌, ◌*◌, ◌+◌, ◌-◌, ◌∙◌, sym, ap, length, arith}
+use Rattle.std.proofs.Common.{◌≡◌, ◌*◌, ◌-◌, ◌∙◌, sym, length, arith}
 use Rattle.line_codec.specs.Slots.{size_under}
-use Rattle.hier_types.specs.declared.settings.Codec.{Codec}
 use Rattle.recency.specs.Kept.{without}
-use Rattle.l2_cache.specs.Room.{segments, segments_sum}
+use Rattle.l2_cache.specs.Room.{segments_sum}
 use Rattle.l2_cache.proofs.RoomLemmas.{set_of-kept, alike_at, sum-split, sum-absent, length-split, length-absent}
 use Rattle.l2_cache.proofs.room_sets.RoomSets.others.Goals as goal
 
