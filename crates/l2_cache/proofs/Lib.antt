@@ -1,3 +1,4 @@
 pub mod LeaveLemmas
 pub mod PackedLemmas
 pub mod RoomLemmas
+pub mod SetLemmas

@@ -1,18 +1,21 @@
 -- The room of a set, after each of its steps.
-use Rattle.std.proofs.Common.{◌≡◌, ◌≤◌, ◌<◌, ◌+◌, ◌-◌, ◌*◌, ◌%◌, ◌==◌, ℕ, suc, true, false, List, [], ◌∷◌, Option, Some, None, length, length-set, set, get_or, refl, sym, ap, ◌∙◌, subst, arith, if◌then◌else◌, get_or-set_same, get_or-set_other}
+use Rattle.std.proofs.Common.{◌≡◌, ◌≤◌, ◌<◌, ◌+◌, ◌-◌, ◌*◌, ◌%◌, ◌==◌, ℕ, suc, true, false, List, [], ◌∷◌, Option, Some, None, length, set, get_or, drop, nat_lt, nat_le, ◌&&◌, replicate, zero, refl, sym, ap, ◌∙◌, subst, arith, if◌then◌else◌}
 use Rattle.std.specs.Option.{IfNone}
 use Rattle.std.proofs.lemmas.Bool.Decides.{nat_tests}
-use Rattle.std.proofs.lemmas.List.{set-get_or}
+use Rattle.std.proofs.lemmas.List.{length-map, get_or-map, map-set, get_or_default, drop_more}
+use Rattle.std.proofs.lemmas.List.Elements.{All-get_or, All-replicate}
+use Rattle.std.proofs.lemmas.Option.{unwrap_or-slice_get}
 use Rattle.hier_types.specs.declared.settings.Codec.{Codec}
-use Rattle.line_codec.specs.Slots.{size_under}
+use Rattle.hier_types.specs.Settings.{IsWithin, IsPowerOfTwo}
 use Rattle.recency.specs.declared.entry.Entry.{Entry}
 use Rattle.recency.specs.Uses.{last_of}
-use Rattle.recency.specs.Kept.{Kept, with_lines, entry_of, without, touched, touched_by, cleaned, clean_in}
-use Rattle.recency.specs.Levels.{set_at, set_of, with_set, kept_of}
-use Rattle.recency.proofs.UseLemmas.{by_eq}
-use Rattle.recency.proofs.LevelLemmas.{set_at-same, set_at-other}
+use Rattle.recency.specs.Kept.{Kept, with_lines, entry_of, without, touched, touched_by, cleaned, clean_in, last_dirty}
+use Rattle.recency.specs.Levels.{set_at, set_of, with_set}
+use Rattle.recency.specs.Steps.{next_dirty, next_dirty_or}
+use Rattle.recency.proofs.LevelLemmas.{masked_sets}
+use Rattle.l2_cache.specs.PackedSet.{KeptUnder, holding, kept_sets}
 use Rattle.l2_cache.specs.Room.{segments, segments_sum, has_space}
-use Rattle.l2_cache.specs.SecondLevel.{IsMeasured}
+use Rattle.l2_cache.specs.SecondLevel.{AreRooms}
 
 module _ (size : List ℕ → ℕ) where
   pub sum_without : (es : List Entry) (line : ℕ) → segments_sum size (without es line) ≤ segments_sum size es
@@ -68,6 +71,11 @@ length_touched es line = elim (entry_of es line) as (λ o. entry_of es line ≡ 
 pub space_left : (size : List ℕ → ℕ) (tags : ℕ) (bytes : List ℕ) (es : List Entry) → has_space size tags bytes es ≡ true → (length es < tags) × (segments size bytes + segments_sum size es ≤ 4 * tags)
 space_left size tags bytes es is = grind (arith, nat_tests, is)
 
+-- the test of room, by numbers that are known
+pub space_test : (size : List ℕ → ℕ) (tags : ℕ) {ways count needed taken : ℕ} (bytes : List ℕ) (es : List Entry) → ways ≡ tags → count ≡ length es → needed ≡ segments size bytes → taken ≡ segments_sum size es
+    → (nat_lt count tags && nat_le (needed + taken) (4 * tags)) ≡ has_space size ways bytes es
+space_test size tags bytes es same many own others = cc
+
 pub last_none : (es : List Entry) → last_of es ≡ None → es ≡ []
 last_none [] is = refl
 last_none (e ∷ []) is = absurd (let k = is in cc)
@@ -77,81 +85,69 @@ pub if_some : (found : Option Entry) (P : Type 0) → (found ≡ None → ⊥) �
 if_some None P some = absurd (some refl)
 if_some (Some e) P some = tt
 
-module _ {codec : Codec} {tags : ℕ} {sets : List Kept} {used : List ℕ} (measured : IsMeasured codec tags sets used) (line : ℕ) where
-  pub home : line % length sets < length sets
-  home = let h = measured.some in omega arith
+-- a set among the others, as its index gives it
+module _ (sets : List KeptUnder) (line index : ℕ) (found : KeptUnder) (at : index ≡ line % length sets) (inside : index < length sets) (is : found ≡ get_or sets index found) where
+  same_index : line % length (kept_sets sets) ≡ index
+  same_index = ap (λ n. line % n) (length-map sets (λ (k : KeptUnder). k.kept)) ∙ sym at
 
-  pub used_within : line % length sets < length used
-  used_within = let n = measured.len in let h = home in omega arith
+  pub set_of-kept : set_of (kept_sets sets) line ≡ found.kept
+  set_of-kept =
+      ap (set_at (kept_sets sets)) same_index ∙ unwrap_or-slice_get (kept_sets sets) index (record { ways = 0; lines = [] })
+      ∙ get_or-map (λ (k : KeptUnder). k.kept) sets index found (record { ways = 0; lines = [] }) inside ∙ ap (λ (k : KeptUnder). k.kept) (sym is)
 
-  pub used_is : get_or used (line % length sets) 0 ≡ segments_sum (size_under codec) (set_of sets line).lines
-  used_is = measured.taken (line % length sets) home
+  with_set-kept : (lines : List Entry) → kept_sets (set sets index (holding found lines)) ≡ with_set (kept_sets sets) line lines
+  with_set-kept lines =
+      map-set (λ (k : KeptUnder). k.kept) sets index (holding found lines)
+      ∙ ap (λ i. set (kept_sets sets) i (with_lines found.kept lines)) (sym same_index)
+      ∙ ap (λ k. set (kept_sets sets) (line % length (kept_sets sets)) (with_lines k lines)) (sym set_of-kept)
 
-  -- the line's set after a step, with the segments that its lines take then
-  pub measured_step : (es : List Entry) (sum : ℕ) → length es ≤ tags → sum ≡ segments_sum (size_under codec) es → sum ≤ 4 * tags → IsMeasured codec tags (with_set sets line es) (set used (line % length sets) sum)
-  measured_step es sum short is low = record {
-    some = rw length-set measured.some;
-    two = measured.two;
-    few = measured.few;
-    len = rw (length-set, length-set) measured.len;
-    ways = λ i lt. by_eq (line % length sets) i
-        (λ y. subst (λ j. (set_at (with_set sets line es) j).ways ≡ tags) y (ap (λ (k : Kept). k.ways) (set_at-same sets (line % length sets) (with_lines (set_of sets line) es) home) ∙ measured.ways (line % length sets) home))
-        (λ apart. ap (λ (k : Kept). k.ways) (set_at-other sets (line % length sets) i (with_lines (set_of sets line) es) apart) ∙ measured.ways i (rw length-set at lt));
-    tagged = λ i lt. by_eq (line % length sets) i
-        (λ y. subst (λ j. length (set_at (with_set sets line es) j).lines ≤ tags) y (rw (set_at-same sets (line % length sets) (with_lines (set_of sets line) es) home) short))
-        (λ apart. rw (set_at-other sets (line % length sets) i (with_lines (set_of sets line) es) apart) (measured.tagged i (rw length-set at lt)));
-    taken = λ i lt. by_eq (line % length sets) i
-        (λ y. subst (λ j. get_or (set used (line % length sets) sum) j 0 ≡ segments_sum (size_under codec) (set_at (with_set sets line es) j).lines) y
-        (get_or-set_same used (line % length sets) sum 0 used_within ∙ is ∙ sym (ap (λ (k : Kept). segments_sum (size_under codec) k.lines) (set_at-same sets (line % length sets) (with_lines (set_of sets line) es) home))))
-        (λ apart. get_or-set_other used (line % length sets) i sum 0 (λ y. apart (sym y)) ∙ measured.taken i (rw length-set at lt)
-        ∙ sym (ap (λ (k : Kept). segments_sum (size_under codec) k.lines) (set_at-other sets (line % length sets) i (with_lines (set_of sets line) es) apart)));
-    fits = λ i lt. by_eq (line % length sets) i
-        (λ y. subst (λ j. segments_sum (size_under codec) (set_at (with_set sets line es) j).lines ≤ 4 * tags) y
-        (rw (set_at-same sets (line % length sets) (with_lines (set_of sets line) es) home) (subst (λ n. n ≤ 4 * tags) is low)))
-        (λ apart. rw (set_at-other sets (line % length sets) i (with_lines (set_of sets line) es) apart) (measured.fits i (rw length-set at lt)));
-  }
+  -- the set takes a step
+  pub stepped : (step : List Entry → List Entry) (new : KeptUnder) → new ≡ holding found (step found.kept.lines) → kept_sets (set sets index new) ≡ with_set (kept_sets sets) line (step (set_of (kept_sets sets) line).lines)
+  stepped step new did =
+      ap (λ n. kept_sets (set sets index n)) did ∙ with_set-kept (step found.kept.lines)
+      ∙ ap (λ (k : Kept). with_set (kept_sets sets) line (step k.lines)) (sym set_of-kept)
 
-  -- a step that leaves the number of lines and their segments
-  pub measured_kept : (es : List Entry) → length es ≡ length (set_of sets line).lines → segments_sum (size_under codec) es ≡ segments_sum (size_under codec) (set_of sets line).lines → IsMeasured codec tags (with_set sets line es) used
-  measured_kept es same sum =
-      let short : length es ≤ tags = rw same (measured.tagged (line % length sets) home) in
-      subst (λ u. IsMeasured codec tags (with_set sets line es) u) (set-get_or used (line % length sets) 0)
-      (measured_step es (get_or used (line % length sets) 0) short (used_is ∙ sym sum) (rw used_is (measured.fits (line % length sets) home)))
+-- a flush passes a set by, or stops at it
+pub next_at : (sets : List KeptUnder) (index : ℕ) (found : KeptUnder) → index < length sets → found ≡ get_or sets index found
+    → next_dirty (drop index (kept_sets sets)) ≡ next_dirty_or (last_dirty found.kept.lines) (drop (index + 1) (kept_sets sets))
+next_at sets index found inside is =
+    let count = length-map sets (λ (k : KeptUnder). k.kept) in
+    let within : index < length (kept_sets sets) = omega arith in
+    ap next_dirty (drop_more (kept_sets sets) index found.kept within)
+    ∙ ap (λ (k : Kept). next_dirty_or (last_dirty k.lines) (drop (index + 1) (kept_sets sets))) (get_or-map (λ (k : KeptUnder). k.kept) sets index found found.kept inside ∙ ap (λ (k : KeptUnder). k.kept) (sym is))
 
-  -- the others of a line that is kept, and of one that is not
-  pub others_of_kept : (e : Entry) → kept_of sets line ≡ Some e → segments (size_under codec) e.bytes + segments_sum (size_under codec) (without (set_of sets line).lines line) ≡ get_or used (line % length sets) 0
-  others_of_kept e kept = sum-split (size_under codec) (set_of sets line).lines line e kept ∙ sym used_is
+kept_sets-replicate : (n : ℕ) (k : KeptUnder) → kept_sets (replicate n k) ≡ replicate n k.kept
+kept_sets-replicate zero k = refl
+kept_sets-replicate (suc n) k = ap (λ ks. k.kept ∷ ks) (kept_sets-replicate n k)
 
-  pub others_of_none : kept_of sets line ≡ None → segments_sum (size_under codec) (without (set_of sets line).lines line) ≡ get_or used (line % length sets) 0
-  others_of_none none = sum-absent (size_under codec) (set_of sets line).lines line none ∙ sym used_is
+-- sets that were just made
+pub rooms_made : (made : List KeptUnder) (codec : Codec) (sets ways : ℕ) → made ≡ replicate sets (record { codec = codec; kept = record { ways = 2 * ways; lines = [] } }) → IsPowerOfTwo 4096 sets → IsWithin 1 16 ways
+    → AreRooms codec (2 * ways) (sets - 1) made
+rooms_made made codec sets ways are power within =
+    let k : KeptUnder = record { codec = codec; kept = record { ways = 2 * ways; lines = [] } } in
+    record {
+      two = omega arith;
+      few = omega arith;
+      masked = masked_sets (kept_sets made) sets k.kept (ap kept_sets are ∙ kept_sets-replicate sets k) power;
+      alike = rw are (All-replicate (λ (s : KeptUnder). (s.codec ≡ codec) × (s.kept.ways ≡ 2 * ways)) sets k (refl, refl));
+    }
 
-  pub others_few : segments_sum (size_under codec) (without (set_of sets line).lines line) ≤ 128
-  others_few =
-      let a = sum_without (size_under codec) (set_of sets line).lines line in
-      let b = measured.fits (line % length sets) home in
-      let c = measured.few in
-      omega arith
+pub kept_made : (made : List KeptUnder) (codec : Codec) (sets ways : ℕ) → made ≡ replicate sets (record { codec = codec; kept = record { ways = ways; lines = [] } }) → kept_sets made ≡ replicate sets (record { ways = ways; lines = [] })
+kept_made made codec sets ways are = ap kept_sets are ∙ kept_sets-replicate sets (record { codec = codec; kept = record { ways = ways; lines = [] } })
 
-  -- another line has left
-  pub taken_out : (e : Entry) → entry_of (set_of sets line).lines e.line ≡ Some e
-      → IsMeasured codec tags (with_set sets line (without (set_of sets line).lines e.line)) (set used (line % length sets) (get_or used (line % length sets) 0 - segments (size_under codec) e.bytes))
-  taken_out e kept =
-      let split = sum-split (size_under codec) (set_of sets line).lines e.line e kept in
-      let is = used_is in
-      let a = length_without (set_of sets line).lines e.line in
-      let b = measured.tagged (line % length sets) home in
-      let c = measured.fits (line % length sets) home in
-      measured_step (without (set_of sets line).lines e.line) (get_or used (line % length sets) 0 - segments (size_under codec) e.bytes) (omega arith) (omega arith) (omega arith)
+module _ {codec : Codec} {tags mask : ℕ} {sets : List KeptUnder} (rooms : AreRooms codec tags mask sets) where
+  pub alike_at : (index : ℕ) (found : KeptUnder) → index < length sets → found ≡ get_or sets index found → (found.codec ≡ codec) × (found.kept.ways ≡ tags)
+  alike_at index found inside is = subst (λ (k : KeptUnder). (k.codec ≡ codec) × (k.kept.ways ≡ tags)) (sym is) (All-get_or (λ (k : KeptUnder). (k.codec ≡ codec) × (k.kept.ways ≡ tags)) sets index found inside rooms.alike)
 
-  pub takes_less : (e : Entry) → entry_of (set_of sets line).lines e.line ≡ Some e → segments (size_under codec) e.bytes ≤ get_or used (line % length sets) 0
-  takes_less e kept = let split = sum-split (size_under codec) (set_of sets line).lines e.line e kept in let is = used_is in omega arith
+  pub ways_are : (line : ℕ) → (set_of (kept_sets sets) line).ways ≡ tags
+  ways_are line =
+      let count = length-map sets (λ (k : KeptUnder). k.kept) in
+      let size = rooms.masked.size in
+      let inside : line % length sets < length sets = omega arith in
+      let unseen : KeptUnder = record { codec = codec; kept = record { ways = 0; lines = [] } } in
+      let here = get_or_default sets (line % length sets) unseen (get_or sets (line % length sets) unseen) inside in
+      ap (λ (k : Kept). k.ways) (set_of-kept sets line (line % length sets) (get_or sets (line % length sets) unseen) refl inside here)
+      ∙ (alike_at (line % length sets) (get_or sets (line % length sets) unseen) inside here).1
 
-  -- an entry was put in front
-  pub put_before : (e : Entry) (others : ℕ) → others ≡ segments_sum (size_under codec) (without (set_of sets line).lines line) → has_space (size_under codec) (set_of sets line).ways e.bytes (without (set_of sets line).lines line) ≡ true
-      → IsMeasured codec tags (with_set sets line (e ∷ without (set_of sets line).lines line)) (set used (line % length sets) (others + segments (size_under codec) e.bytes))
-  put_before e others is room =
-      let space = space_left (size_under codec) (set_of sets line).ways e.bytes (without (set_of sets line).lines line) room in
-      let few = space.0 in
-      let low = space.1 in
-      let w : (set_of sets line).ways ≡ tags = measured.ways (line % length sets) home in
-      measured_step (e ∷ without (set_of sets line).lines line) (others + segments (size_under codec) e.bytes) (omega arith) (omega arith) (omega arith)
+  pub within : (index : ℕ) → index < mask + 1 → index < length sets
+  within index below = let count = length-map sets (λ (k : KeptUnder). k.kept) in let size = rooms.masked.size in omega arith

@@ -1,5 +1,6 @@
 pub mod Packed
 pub mod PackedLines
+pub mod PackedSet
 pub mod Room
 pub mod SecondLevel
 pub mod Turns

@@ -1,27 +1,22 @@
 -- A second level above a layer.
-use Rattle.std.specs.Prelude.{◌≡◌, ◌<◌, ◌≤◌, ◌*◌, ℕ, List, length, slice_index}
+use Rattle.std.specs.Prelude.{◌≡◌, ◌<◌, ◌≤◌, ℕ, List, length, All}
 use Rattle.hier_types.specs.declared.counts.L2Counts.{L2Counts}
 use Rattle.hier_types.specs.declared.settings.Codec.{Codec}
-use Rattle.line_codec.specs.Slots.{size_under}
 use Rattle.recency.specs.Kept.{Kept}
-use Rattle.recency.specs.Levels.{set_at, overlay, IsSound}
-use Rattle.l2_cache.specs.Room.{segments_sum}
+use Rattle.recency.specs.Levels.{overlay, IsSound, IsMasked}
+use Rattle.l2_cache.specs.PackedSet.{KeptUnder, kept_sets}
 
 -- what is seen of sets in bounded room
 pub record Rooms : Type 0 where
   pub codec : Codec
   pub sets : List Kept
 
--- Each set has so many tags and four segments for each, and the segments that its lines take are known.
-pub record IsMeasured (codec : Codec) (tags : ℕ) (sets : List Kept) (used : List ℕ) : Type 0 where
-  pub some : 0 < length sets
+-- The sets are a power of two, and each has so many tags and the codec.
+pub record AreRooms (codec : Codec) (tags mask : ℕ) (sets : List KeptUnder) : Type 0 where
   pub two : 2 ≤ tags
   pub few : tags ≤ 32
-  pub len : length used ≡ length sets
-  pub ways : (i : ℕ) → i < length sets → (set_at sets i).ways ≡ tags
-  pub tagged : (i : ℕ) → i < length sets → length (set_at sets i).lines ≤ tags
-  pub taken : (i : ℕ) → i < length sets → slice_index used i ≡ segments_sum (size_under codec) (set_at sets i).lines
-  pub fits : (i : ℕ) → i < length sets → segments_sum (size_under codec) (set_at sets i).lines ≤ 4 * tags
+  pub masked : IsMasked (kept_sets sets) mask
+  pub alike : All (λ (set : KeptUnder). (set.codec ≡ codec) × (set.kept.ways ≡ tags)) sets
 
 -- what is seen of a second level; the cursor is the number of the cleaner's set
 pub record Seen (B : Type 0) : Type 0 where

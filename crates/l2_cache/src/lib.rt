@@ -6,6 +6,7 @@
 mod clean;
 mod l2;
 mod packed_lines;
+mod packed_set;
 mod room_sets;
 #[cfg(test)]
 mod tests;

@@ -1,17 +1,19 @@
 // Sets of lines in bounded room.
-ghost use Rattle.std.specs.Prelude.{◌≡◌, ◌<◌, ◌≤◌, ◌*◌, ◌%◌, ℕ, [], true, false, Some, None, length, is_some, replicate, slice_index, IfOk, IfNone, MatchOption};
+ghost use Rattle.std.specs.Prelude.{◌≡◌, ◌<◌, ◌≤◌, ◌*◌, ◌%◌, ℕ, [], true, false, Some, None, length, is_some, replicate, IfOk, IfNone, MatchOption};
 ghost use Rattle.hier_types.specs.Settings.{IsWithin, IsPowerOfTwo};
 ghost use Rattle.line_codec.specs.Slots.{size_under};
 ghost use Rattle.recency.specs.Uses.{last_of};
 ghost use Rattle.recency.specs.Kept.{without, entry_of, touched, last_dirty};
-ghost use Rattle.recency.specs.Levels.{set_at, set_of, with_set, kept_of};
+ghost use Rattle.recency.specs.Levels.{set_at, set_of, with_set, kept_of, IsMasked};
 ghost use Rattle.recency.specs.Steps.{next_dirty, with_clean};
+ghost use Rattle.l2_cache.specs.PackedSet.{kept_sets};
 ghost use Rattle.l2_cache.specs.Room.{segments, segments_sum, has_space, leaver};
 ghost use Rattle.l2_cache.specs.Turns.{in_front};
 
+use crate::packed_set::PackedSet;
 use hier_types::{Codec, Line, NoMemory};
 use line_codec::size;
-use recency::{Entry, LineSets};
+use recency::Entry;
 use std::alloc::Global;
 use std::marker::Model;
 
@@ -21,19 +23,19 @@ use std::marker::Model;
 pub(crate) struct RoomSets {
     codec: Codec,
     tags: u32,
-    sets: LineSets,
-    // The segments that the lines of each set take.
-    used: Vec<u32>,
+    mask: u32,
+    sets: Vec<PackedSet>,
 }
 
 impl Model for RoomSets {
-    ghost use Rattle.l2_cache.specs.SecondLevel.{Rooms, IsMeasured};
+    ghost use Rattle.l2_cache.specs.PackedSet.{kept_sets};
+    ghost use Rattle.l2_cache.specs.SecondLevel.{Rooms, AreRooms};
 
     ghost Value = { Rooms };
 
-    ghost view = { λ a. record { codec = a.codec; sets = a.sets } };
+    ghost view = { λ a. record { codec = a.codec; sets = kept_sets a.sets.items } };
 
-    ghost invariant = { λ a. IsMeasured a.codec a.tags a.sets a.used.items };
+    ghost invariant = { λ a. AreRooms a.codec a.tags a.mask a.sets.items };
 }
 
 /// The segments that a line takes.
@@ -44,12 +46,25 @@ fn segments_of(codec: Codec, bytes: &Line) -> u32
     (size(codec, bytes) as u32 + 7) / 8
 }
 
-/// The segments that the lines of a set take.
-fn used_by(used: &Vec<u32>, set: u32) -> u32
-    requires { set < length used.now.items }
-    ensures { result ≡ slice_index used.now.items set }
+/// So many sets with no line.
+fn empty_sets(alloc: Global, codec: Codec, sets: u32, ways: u32) -> Result<Vec<PackedSet>, NoMemory>
+    requires { IsWithin 1 16 ways }
+    ensures { IfOk result (λ made. made.items ≡ replicate sets (record { codec = codec; kept = record { ways = 2 * ways; lines = [] } })) }
 {
-    used[set as usize]
+    let mut made = Vec::with_capacity(alloc, sets as usize)?;
+    for count in 0..sets {
+        made.push(PackedSet::new(alloc, codec, ways)?)?;
+    }
+    Ok(made)
+}
+
+/// The index of a line's set.
+fn index_of(sets: &Vec<PackedSet>, mask: u32, line: u32) -> u32
+    requires { IsMasked (kept_sets sets.now.items) mask }
+    ensures index { result ≡ line % length sets.now.items }
+    ensures inside { result < length sets.now.items }
+{
+    line & mask
 }
 
 /// The lines of a set but one: how many they are, and the segments that they take.
@@ -72,13 +87,11 @@ impl RoomSets {
         requires ways { IsWithin 1 16 ways }
         ensures { IfOk result (λ made. made ≡ record { codec = codec; sets = replicate sets (record { ways = 2 * ways; lines = [] }) }) }
     {
-        let used = vec![in alloc; 0u32; sets as usize]?;
-        let sets = LineSets::new(alloc, sets, 2 * ways)?;
         Ok(RoomSets {
             codec,
             tags: 2 * ways,
-            sets,
-            used,
+            mask: sets - 1,
+            sets: empty_sets(alloc, codec, sets, ways)?,
         })
     }
 
@@ -86,21 +99,23 @@ impl RoomSets {
     pub(crate) fn count(&self) -> u32
         ensures { result ≡ length self.now.sets }
     {
-        self.sets.count()
+        self.mask + 1
     }
 
     /// Copies the bytes of a line, and tells whether it is kept. The order of use stays.
     pub(crate) fn copy_of(&self, line: u32, into: &mut Line) -> bool
         ensures { MatchOption (kept_of self.now.sets line) ((result ≡ false) × (into.new ≡ into.old)) (λ e. (result ≡ true) × (into.new ≡ e.bytes)) }
     {
-        self.sets.copy_of(line, into)
+        let index = index_of(&self.sets, self.mask, line);
+        self.sets[index as usize].copy_of(line, into)
     }
 
     /// Whether the line is kept. The order of use stays.
     pub(crate) fn keeps(&self, line: u32) -> bool
         ensures { result ≡ is_some (kept_of self.now.sets line) }
     {
-        self.sets.entry(line).is_some()
+        let index = index_of(&self.sets, self.mask, line);
+        self.sets[index as usize].entry(line).is_some()
     }
 
     /// Whether the line is kept. It becomes the most recent of its set.
@@ -108,7 +123,8 @@ impl RoomSets {
         ensures found { result ≡ is_some (kept_of self.old.sets line) }
         ensures after { self.new ≡ record { codec = self.old.codec; sets = with_set self.old.sets line (touched (set_of self.old.sets line).lines line) } }
     {
-        self.sets.touch(line)
+        let index = index_of(&self.sets, self.mask, line);
+        self.sets[index as usize].touch(line)
     }
 
     /// The lines of the line's set but itself.
@@ -117,9 +133,11 @@ impl RoomSets {
         ensures segments { result.segments ≡ segments_sum (size_under self.now.codec) (without (set_of self.now.sets line).lines line) }
         ensures few { result.segments ≤ 128 }
     {
-        let count = self.sets.len_of(line);
-        let taken = used_by(&self.used, self.sets.set_number(line));
-        match self.sets.entry(line) {
+        let index = index_of(&self.sets, self.mask, line);
+        let set = &self.sets[index as usize];
+        let count = set.len();
+        let taken = 4 * self.tags - set.room();
+        match set.entry(line) {
             Some(old) => Others {
                 count: count - 1,
                 segments: taken - segments_of(self.codec, &old.bytes),
@@ -149,7 +167,8 @@ impl RoomSets {
         if self.has_space(line, bytes) {
             return None;
         }
-        self.sets.oldest_other(line)
+        let index = index_of(&self.sets, self.mask, line);
+        self.sets[index as usize].oldest_other(line)
     }
 
     /// Another line leaves the set of a line.
@@ -157,10 +176,8 @@ impl RoomSets {
         requires { entry_of (set_of self.old.sets line).lines entry.now.line ≡ Some entry.now }
         ensures { self.new ≡ record { codec = self.old.codec; sets = with_set self.old.sets line (without (set_of self.old.sets line).lines entry.now.line) } }
     {
-        let set = self.sets.set_number(line);
-        let left = used_by(&self.used, set) - segments_of(self.codec, &entry.bytes);
-        self.used[set as usize] = left;
-        self.sets.remove_from(line, entry.line);
+        let index = index_of(&self.sets, self.mask, line);
+        self.sets[index as usize].remove(entry.line);
     }
 
     /// Puts an entry in front of its set, in place of an older one of its line.
@@ -168,10 +185,8 @@ impl RoomSets {
         requires { has_space (size_under self.old.codec) (set_of self.old.sets entry.now.line).ways entry.now.bytes (without (set_of self.old.sets entry.now.line).lines entry.now.line) ≡ true }
         ensures { self.new ≡ record { codec = self.old.codec; sets = in_front self.old.sets entry.now } }
     {
-        let others = self.others(entry.line);
-        let set = self.sets.set_number(entry.line);
-        self.used[set as usize] = others.segments + segments_of(self.codec, &entry.bytes);
-        self.sets.put_front(entry);
+        let index = index_of(&self.sets, self.mask, entry.line);
+        self.sets[index as usize].put_front(entry);
     }
 
     /// The least recent dirty line of a set.
@@ -179,7 +194,7 @@ impl RoomSets {
         requires { set < length self.now.sets }
         ensures { result ≡ last_dirty (set_at self.now.sets set).lines }
     {
-        self.sets.last_dirty(set)
+        self.sets[set as usize].last_dirty()
     }
 
     /// The dirty line that a flush writes next, where the sets below `from` have none.
@@ -187,20 +202,26 @@ impl RoomSets {
         requires { (i : ℕ) → i < from → last_dirty (set_at self.now.sets i).lines ≡ None }
         ensures { result ≡ next_dirty self.now.sets }
     {
-        self.sets.next_dirty(from)
+        for set in from..self.mask + 1 {
+            if let Some(entry) = self.sets[set as usize].last_dirty() {
+                return Some(entry);
+            }
+        }
+        None
     }
 
     /// The number of a line's set.
     pub(crate) fn set_number(&self, line: u32) -> u32
         ensures { result ≡ line % length self.now.sets }
     {
-        self.sets.set_number(line)
+        index_of(&self.sets, self.mask, line)
     }
 
     /// The line is clean from now on, where it is kept.
     pub(crate) fn clean(&mut self, line: u32)
         ensures { self.new ≡ record { codec = self.old.codec; sets = with_clean self.old.sets line } }
     {
-        self.sets.clean(line);
+        let index = index_of(&self.sets, self.mask, line);
+        self.sets[index as usize].clean(line);
     }
 }

@@ -1,10 +1,10 @@
-use Rattle.recency.specs.Levels.{set_of}
+use Rattle.std.proofs.Common.{ap}
 use Rattle.recency.specs.Kept.{clean_in}
-use Rattle.line_codec.specs.Slots.{size_under}
-use Rattle.l2_cache.proofs.RoomLemmas.{measured_kept, sum_clean, length_clean}
+use Rattle.l2_cache.proofs.RoomLemmas.{stepped}
 use Rattle.l2_cache.proofs.room_sets.RoomSets.clean.Goals as goal
 
-pub invariant_of-self : goal.invariant_of-self
-invariant_of-self c =
-    let lines = (set_of c.self.inside.sets c.args.line).lines in
-    rw c.clean.ensures (measured_kept c.self.invariant c.args.line (clean_in lines c.args.line) (length_clean lines c.args.line) (sum_clean (size_under c.self.inside.codec) lines c.args.line))
+pub returns : goal.returns
+returns c =
+    rw (← c.self.view_is) (ap (λ sets. record { codec = c.self.inside.codec; sets = sets })
+    (stepped c.self.inside.sets.items c.args.line c.index_of-index.result c.index_mut.result.now c.index_of-index.ensures.index c.index_of-index.ensures.inside c.index_mut.ensures.value
+    (λ es. clean_in es c.args.line) c.clean.new.self c.clean.ensures))

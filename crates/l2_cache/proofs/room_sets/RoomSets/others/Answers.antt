@@ -1,53 +1,48 @@
-use Rattle.std.proofs.Common.{◌≡◌, ◌-◌, ◌∙◌, ap, sym, get_or, length, arith}
+use Rattle.std.proofs.Common.{◌≡◌, ◌*◌, ◌-◌, ◌∙◌, sym, length, arith}
 use Rattle.line_codec.specs.Slots.{size_under}
 use Rattle.recency.specs.Kept.{without}
-use Rattle.recency.specs.Levels.{set_of}
 use Rattle.l2_cache.specs.Room.{segments_sum}
-use Rattle.l2_cache.proofs.RoomLemmas.{others_of_kept, others_of_none, others_few, length-split, length-absent}
+use Rattle.l2_cache.proofs.RoomLemmas.{set_of-kept, alike_at, sum-split, sum-absent, length-split, length-absent}
 use Rattle.l2_cache.proofs.room_sets.RoomSets.others.Goals as goal
 
 pub overflow_sub-result-in-Some : goal.overflow_sub-result-in-Some
 overflow_sub-result-in-Some c =
-    let split = others_of_kept c.self.invariant c.args.line c.in-Some.old (sym c.in-Some.ensures) in
-    let taken = c.used_by-taken.ensures ∙ ap (λ i. get_or c.self.inside.used.items i 0) c.set_number.ensures in
+    let alike = alike_at c.self.invariant c.index_of-index.result c.index-set.result.now c.index_of-index.ensures.inside c.index-set.ensures in
+    let taken = rw alike.0 at c.room.ensures in
+    let split = sum-split (size_under c.self.inside.codec) c.index-set.result.now.kept.lines c.args.line c.in-Some.old (sym c.in-Some.ensures) in
     let own = c.segments_of.ensures.count in
+    let tags = alike.1 in
     omega arith
 
 pub returns-in-Some-clause-count : goal.returns-in-Some-clause-count
 returns-in-Some-clause-count c =
-    let count = c.len_of-count.ensures in
-    let split = length-split (set_of c.self.inside.sets c.args.line).lines c.args.line c.in-Some.old (sym c.in-Some.ensures) in
-    let left : c.len_of-count.result - 1 ≡ length (without (set_of c.self.inside.sets c.args.line).lines c.args.line) = omega arith in
-    rw (← c.self.view_is) left
+    let here = set_of-kept c.self.inside.sets.items c.args.line c.index_of-index.result c.index-set.result.now c.index_of-index.ensures.index c.index_of-index.ensures.inside c.index-set.ensures in
+    let count = c.len-count.ensures in
+    let split = length-split c.index-set.result.now.kept.lines c.args.line c.in-Some.old (sym c.in-Some.ensures) in
+    let left : c.len-count.result - 1 ≡ length (without c.index-set.result.now.kept.lines c.args.line) = omega arith in
+    rw (← c.self.view_is, here) left
 
 pub returns-in-Some-clause-segments : goal.returns-in-Some-clause-segments
 returns-in-Some-clause-segments c =
-    let split = others_of_kept c.self.invariant c.args.line c.in-Some.old (sym c.in-Some.ensures) in
-    let taken = c.used_by-taken.ensures ∙ ap (λ i. get_or c.self.inside.used.items i 0) c.set_number.ensures in
+    let here = set_of-kept c.self.inside.sets.items c.args.line c.index_of-index.result c.index-set.result.now c.index_of-index.ensures.index c.index_of-index.ensures.inside c.index-set.ensures in
+    let alike = alike_at c.self.invariant c.index_of-index.result c.index-set.result.now c.index_of-index.ensures.inside c.index-set.ensures in
+    let taken = rw alike.0 at c.room.ensures in
+    let split = sum-split (size_under c.self.inside.codec) c.index-set.result.now.kept.lines c.args.line c.in-Some.old (sym c.in-Some.ensures) in
     let own = c.segments_of.ensures.count in
-    let left : c.used_by-taken.result - c.segments_of.result ≡ segments_sum (size_under c.self.inside.codec) (without (set_of c.self.inside.sets c.args.line).lines c.args.line) = omega arith in
-    rw (← c.self.view_is) left
-
-pub returns-in-Some-clause-few : goal.returns-in-Some-clause-few
-returns-in-Some-clause-few c =
-    let split = others_of_kept c.self.invariant c.args.line c.in-Some.old (sym c.in-Some.ensures) in
-    let taken = c.used_by-taken.ensures ∙ ap (λ i. get_or c.self.inside.used.items i 0) c.set_number.ensures in
-    let own = c.segments_of.ensures.count in
-    let few = others_few c.self.invariant c.args.line in
-    omega arith
+    let tags = alike.1 in
+    let left : 4 * c.self.inside.tags - c.room.result - c.segments_of.result ≡ segments_sum (size_under c.self.inside.codec) (without c.index-set.result.now.kept.lines c.args.line) = omega arith in
+    rw (← c.self.view_is, here) left
 
 pub returns-in-None-clause-count : goal.returns-in-None-clause-count
 returns-in-None-clause-count c =
-    rw (← c.self.view_is) (c.len_of-count.ensures ∙ sym (length-absent (set_of c.self.inside.sets c.args.line).lines c.args.line (sym c.in-None.ensures)))
+    let here = set_of-kept c.self.inside.sets.items c.args.line c.index_of-index.result c.index-set.result.now c.index_of-index.ensures.index c.index_of-index.ensures.inside c.index-set.ensures in
+    rw (← c.self.view_is, here) (c.len-count.ensures ∙ sym (length-absent c.index-set.result.now.kept.lines c.args.line (sym c.in-None.ensures)))
 
 pub returns-in-None-clause-segments : goal.returns-in-None-clause-segments
 returns-in-None-clause-segments c =
-    let taken = c.used_by-taken.ensures ∙ ap (λ i. get_or c.self.inside.used.items i 0) c.set_number.ensures in
-    rw (← c.self.view_is) (taken ∙ sym (others_of_none c.self.invariant c.args.line (sym c.in-None.ensures)))
-
-pub returns-in-None-clause-few : goal.returns-in-None-clause-few
-returns-in-None-clause-few c =
-    let taken = c.used_by-taken.ensures ∙ ap (λ i. get_or c.self.inside.used.items i 0) c.set_number.ensures in
-    let same = others_of_none c.self.invariant c.args.line (sym c.in-None.ensures) in
-    let few = others_few c.self.invariant c.args.line in
-    omega arith
+    let here = set_of-kept c.self.inside.sets.items c.args.line c.index_of-index.result c.index-set.result.now c.index_of-index.ensures.index c.index_of-index.ensures.inside c.index-set.ensures in
+    let alike = alike_at c.self.invariant c.index_of-index.result c.index-set.result.now c.index_of-index.ensures.inside c.index-set.ensures in
+    let taken = rw alike.0 at c.room.ensures in
+    let tags = alike.1 in
+    let left : 4 * c.self.inside.tags - c.room.result ≡ segments_sum (size_under c.self.inside.codec) c.index-set.result.now.kept.lines = omega arith in
+    rw (← c.self.view_is, here) (left ∙ sym (sum-absent (size_under c.self.inside.codec) c.index-set.result.now.kept.lines c.args.line (sym c.in-None.ensures)))

@@ -1,10 +1,10 @@
-use Rattle.recency.specs.Levels.{set_of}
+use Rattle.std.proofs.Common.{ap}
 use Rattle.recency.specs.Kept.{touched}
-use Rattle.line_codec.specs.Slots.{size_under}
-use Rattle.l2_cache.proofs.RoomLemmas.{measured_kept, sum_touched, length_touched}
+use Rattle.l2_cache.proofs.RoomLemmas.{stepped}
 use Rattle.l2_cache.proofs.room_sets.RoomSets.touch.Goals as goal
 
-pub invariant_of-self : goal.invariant_of-self
-invariant_of-self c =
-    let lines = (set_of c.self.inside.sets c.args.line).lines in
-    rw c.touch.ensures.after (measured_kept c.self.invariant c.args.line (touched lines c.args.line) (length_touched lines c.args.line) (sum_touched (size_under c.self.inside.codec) lines c.args.line))
+pub returns-clause-after : goal.returns-clause-after
+returns-clause-after c =
+    rw (← c.self.view_is) (ap (λ sets. record { codec = c.self.inside.codec; sets = sets })
+    (stepped c.self.inside.sets.items c.args.line c.index_of-index.result c.index_mut.result.now c.index_of-index.ensures.index c.index_of-index.ensures.inside c.index_mut.ensures.value
+    (λ es. touched es c.args.line) c.touch.new.self c.touch.ensures.after))
