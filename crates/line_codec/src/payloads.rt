@@ -1,4 +1,4 @@
-ghost use Rattle.std.specs.Prelude.{◌≡◌, ℕ, List, Some};
+ghost use Rattle.std.specs.Prelude.{◌≡◌, ◌↔◌, ℕ, List, Some};
 ghost use Rattle.arrayvec.specs.ArrayVec.{array_vec_len};
 ghost use Rattle.line_codec.specs.Slots.{size_under};
 ghost use Rattle.line_codec.specs.Payloads.{line_of, SaysLine, form_under, payload_under};
@@ -86,10 +86,10 @@ pub fn pack(codec: Codec, line: &[u8; 64]) -> Packed
     }
 }
 
-// The line that the payload says in the form, if it says one.
+// The line that the payload says in the form, and none where it says none.
 #[tactic(auto, unfolding(crate::specs::Payloads::SaysLine))]
 fn read(form: Form, payload: &[u8]) -> Option<[u8; 64]>
-    ensures { (line : List ℕ) → SaysLine form payload.now line → result ≡ Some line }
+    ensures { (line : List ℕ) → (result ≡ Some line) ↔ SaysLine form payload.now line }
 {
     match form {
         Form::Plain => payload.as_array::<64>().copied(),
