@@ -1,7 +1,6 @@
--- The room of a set, after each of its steps.
-use Rattle.std.proofs.Common.{◌≡◌, ◌≤◌, ◌<◌, ◌+◌, ◌-◌, ◌*◌, ◌%◌, ◌==◌, ℕ, suc, true, false, List, [], ◌∷◌, Option, Some, None, length, set, get_or, drop, nat_lt, nat_le, ◌&&◌, replicate, zero, refl, sym, ap, ◌∙◌, subst, arith, if◌then◌else◌}
+-- The room of a set after a step, and a set among the others.
+use Rattle.std.proofs.Common.{◌≡◌, ◌<◌, ◌+◌, ◌-◌, ◌*◌, ◌%◌, ◌==◌, ℕ, suc, true, false, List, [], ◌∷◌, Option, Some, None, length, set, get_or, drop, nat_lt, nat_le, ◌&&◌, replicate, zero, refl, sym, ap, ◌∙◌, subst, arith, if◌then◌else◌}
 use Rattle.std.specs.Option.{IfNone}
-use Rattle.std.proofs.lemmas.Bool.Decides.{nat_tests}
 use Rattle.std.proofs.lemmas.List.{length-map, get_or-map, map-set, get_or_default, drop_more}
 use Rattle.std.proofs.lemmas.List.Elements.{All-get_or, All-replicate}
 use Rattle.std.proofs.lemmas.Option.{unwrap_or-slice_get}
@@ -18,10 +17,6 @@ use Rattle.l2_cache.specs.Room.{segments, segments_sum, has_space}
 use Rattle.l2_cache.specs.SecondLevel.{AreRooms}
 
 module _ (size : List ℕ → ℕ) where
-  pub sum_without : (es : List Entry) (line : ℕ) → segments_sum size (without es line) ≤ segments_sum size es
-  sum_without [] line = omega arith
-  sum_without (e ∷ es) line = let rest = sum_without es line in elim (e.line == line) as (λ t. segments_sum size (if t then es else e ∷ without es line) ≤ segments_sum size (e ∷ es)) [ true ↦ omega arith | false ↦ omega arith ]
-
   pub sum-split : (es : List Entry) (line : ℕ) (e : Entry) → entry_of es line ≡ Some e → segments size e.bytes + segments_sum size (without es line) ≡ segments_sum size es
   sum-split [] line e is = absurd (let h = is in cc)
   sum-split (f ∷ es) line e is = elim (f.line == line) as (λ t. (if t then Some f else entry_of es line) ≡ Some e → segments size e.bytes + segments_sum size (if t then es else f ∷ without es line) ≡ segments_sum size (f ∷ es)) [
@@ -43,14 +38,6 @@ module _ (size : List ℕ → ℕ) where
   pub sum_touched : (es : List Entry) (line : ℕ) → segments_sum size (touched es line) ≡ segments_sum size es
   sum_touched es line = elim (entry_of es line) as (λ o. entry_of es line ≡ o → segments_sum size (touched_by o es line) ≡ segments_sum size es) [ None ↦ λ h. refl | Some e ↦ λ h. sum-split es line e h ] refl
 
-pub length_clean : (es : List Entry) (line : ℕ) → length (clean_in es line) ≡ length es
-length_clean [] line = refl
-length_clean (e ∷ es) line = omega (arith, length_clean es line)
-
-pub length_without : (es : List Entry) (line : ℕ) → length (without es line) ≤ length es
-length_without [] line = omega arith
-length_without (e ∷ es) line = let rest = length_without es line in elim (e.line == line) as (λ t. length (if t then es else e ∷ without es line) ≤ length (e ∷ es)) [ true ↦ omega arith | false ↦ omega arith ]
-
 pub length-split : (es : List Entry) (line : ℕ) (e : Entry) → entry_of es line ≡ Some e → suc (length (without es line)) ≡ length es
 length-split [] line e is = absurd (let h = is in cc)
 length-split (f ∷ es) line e is = elim (f.line == line) as (λ t. (if t then Some f else entry_of es line) ≡ Some e → suc (length (if t then es else f ∷ without es line)) ≡ length (f ∷ es)) [
@@ -64,12 +51,6 @@ length-absent (f ∷ es) line is = elim (f.line == line) as (λ t. (if t then So
   | true ↦ λ h. absurd (let k = h in cc)
   | false ↦ λ h. ap suc (length-absent es line h)
 ] is
-
-pub length_touched : (es : List Entry) (line : ℕ) → length (touched es line) ≡ length es
-length_touched es line = elim (entry_of es line) as (λ o. entry_of es line ≡ o → length (touched_by o es line) ≡ length es) [ None ↦ λ h. refl | Some e ↦ λ h. length-split es line e h ] refl
-
-pub space_left : (size : List ℕ → ℕ) (tags : ℕ) (bytes : List ℕ) (es : List Entry) → has_space size tags bytes es ≡ true → (length es < tags) × (segments size bytes + segments_sum size es ≤ 4 * tags)
-space_left size tags bytes es is = grind (arith, nat_tests, is)
 
 -- the test of room, by numbers that are known
 pub space_test : (size : List ℕ → ℕ) (tags : ℕ) {ways count needed taken : ℕ} (bytes : List ℕ) (es : List Entry) → ways ≡ tags → count ≡ length es → needed ≡ segments size bytes → taken ≡ segments_sum size es

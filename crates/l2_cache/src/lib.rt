@@ -1,4 +1,4 @@
-//! The second cache level: sets of lines with their sizes, in bounded room, over any layer.
+//! The second cache level: sets of lines, each packed under a codec into the bounded room of its set, over any layer.
 //! Contracts see the lines that each set keeps, the most recent first, the counts, the cleaner's set and the layer below.
 //! It never looks behind the layer below, and never lets a dirty line go that was not written there.
 #![tactic(auto)]

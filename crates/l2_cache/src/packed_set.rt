@@ -96,6 +96,16 @@ impl PackedSet {
         true
     }
 
+    /// Whether the line is kept. The order of use stays.
+    pub(crate) fn keeps(&self, line: u32) -> bool
+        ensures { result ≡ is_some (entry_of self.now.kept.lines line) }
+    {
+        let Some(_) = slot_of(&self.order, &self.tags, self.ways, line) else {
+            return false;
+        };
+        true
+    }
+
     /// What is kept of a line. The order of use stays.
     pub(crate) fn entry(&self, line: u32) -> Option<Entry>
         ensures { result ≡ entry_of self.now.kept.lines line }
@@ -113,7 +123,7 @@ impl PackedSet {
         self.order.len()
     }
 
-    /// The segments that are free.
+    /// The segments of 8 bytes that are free.
     pub(crate) fn room(&self) -> u32
         ensures { result + segments_sum (size_under self.now.codec) self.now.kept.lines ≡ 4 * self.now.kept.ways }
     {

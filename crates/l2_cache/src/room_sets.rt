@@ -23,6 +23,7 @@ use std::marker::Model;
 pub(crate) struct RoomSets {
     codec: Codec,
     tags: u32,
+    // One less than the number of sets: the bits of a set's index.
     mask: u32,
     sets: Vec<PackedSet>,
 }
@@ -115,7 +116,7 @@ impl RoomSets {
         ensures { result ≡ is_some (kept_of self.now.sets line) }
     {
         let index = index_of(&self.sets, self.mask, line);
-        self.sets[index as usize].entry(line).is_some()
+        self.sets[index as usize].keeps(line)
     }
 
     /// Whether the line is kept. It becomes the most recent of its set.
