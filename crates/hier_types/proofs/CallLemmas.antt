@@ -1,5 +1,5 @@
 -- How the calls that were made on a layer are put together.
-use Rattle.std.proofs.Common.{◌≡◌, ℕ, List, [], ◌∷◌, Result, refl}
+use Rattle.std.proofs.Common.{ℕ, List, [], ◌∷◌, Result, refl}
 use Rattle.hier_types.specs.Calls.{Answer, Call, Read, Write, Makes}
 use Rattle.hier_types.specs.declared.faults.NoSpace.{NoSpace}
 
