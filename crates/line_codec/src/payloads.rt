@@ -1,4 +1,4 @@
-ghost use Rattle.std.specs.Prelude.{◌≡◌, ◌↔◌, ℕ, List, Some};
+ghost use Rattle.std.specs.Prelude.{◌≡◌, ◌≤◌, ◌↔◌, ℕ, List, Some};
 ghost use Rattle.arrayvec.specs.ArrayVec.{array_vec_len};
 ghost use Rattle.line_codec.specs.Slots.{size_under};
 ghost use Rattle.line_codec.specs.Payloads.{line_of, SaysLine, form_under, payload_under};
@@ -74,6 +74,7 @@ fn pack_patterns(line: &[u8; 64]) -> Packed
 /// it. Makes the payload once, on the stack.
 pub fn pack(codec: Codec, line: &[u8; 64]) -> Packed
     ensures size { array_vec_len result.payload ≡ size_under codec line.now }
+    ensures some { 1 ≤ array_vec_len result.payload }
     ensures reads_back { SaysLine result.form result.payload.items line.now }
 
     // The form and the payload are those of the definitions, and no others that say the line.

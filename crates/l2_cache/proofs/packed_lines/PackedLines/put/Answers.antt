@@ -1,6 +1,5 @@
 use Rattle.std.proofs.Common.{List, ℕ, Some, set, refl, ap, ◌∙◌, arith}
 use Rattle.l2_segments.specs.Strings.{Strings}
-use Rattle.line_codec.proofs.EmptyLemmas.{length_some-says}
 use Rattle.line_codec.proofs.PayloadLemmas.{line_of-says}
 use Rattle.l2_cache.specs.PackedLines.{line_of_string, lines_of}
 use Rattle.l2_cache.proofs.PackedLemmas.{slot_inside, few_forms, unused_slot, payload_of, packed_put, lines_of-changed}
@@ -27,8 +26,7 @@ place-placed-requires-clause-unused c =
     unused_slot c.self.invariant c.args.slot inside (rw (← c.self.view_is) at c.requires.empty)
 
 pub place-placed-requires-clause-some : goal.place-placed-requires-clause-some
-place-placed-requires-clause-some c =
-    rw c.as_slice.ensures.value (length_some-says c.pack-packed.result.form c.pack-packed.result.payload.items c.args.from.now c.pack-packed.ensures.reads_back)
+place-placed-requires-clause-some c = rw c.as_slice.ensures.value c.pack-packed.ensures.some
 
 pub invariant_of-self : goal.invariant_of-self
 invariant_of-self c =
