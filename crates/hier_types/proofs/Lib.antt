@@ -4,4 +4,5 @@ pub mod LineLemmas
 pub mod PlainLemmas
 pub mod PortCallLemmas
 pub mod SettingLemmas
+pub mod StreamLemmas
 pub mod TableLemmas

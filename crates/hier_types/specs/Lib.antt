@@ -10,4 +10,5 @@ pub mod Shelves
 pub mod Sinks
 pub mod Sources
 pub mod Span
+pub mod Streams
 pub mod Tabulate

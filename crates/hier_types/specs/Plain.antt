@@ -14,14 +14,14 @@ pub record Plain : Type 0 where
   pub last : Option NoSpace
 
 -- what a refusal of a call on the line says: its page, and order 0
-abbrev pub refusal_of : ℕ → NoSpace
-refusal_of line = record { page = record { 0 = line / 64 }; order = 0 }
+abbrev pub refusal_at : ℕ → NoSpace
+refusal_at line = record { page = record { 0 = line / 64 }; order = 0 }
 
 -- a call on a line refuses exactly where it is listed; it leaves these lines where it does not
 abbrev pub PlainAnswers : {T : Type 0} → Plain → ℕ → Result T NoSpace → List (List ℕ) → Plain → Type 0
 PlainAnswers old line (Ok t) lines new = (is_listed old.refuse old.calls ≡ false)
     × (new ≡ record { lines = lines; refuse = old.refuse; calls = raised old.calls; stops = old.stops; last = old.last })
-PlainAnswers old line (Err refusal) lines new = (is_listed old.refuse old.calls ≡ true) × (refusal ≡ refusal_of line)
+PlainAnswers old line (Err refusal) lines new = (is_listed old.refuse old.calls ≡ true) × (refusal ≡ refusal_at line)
     × (new ≡ record { lines = old.lines; refuse = old.refuse; calls = raised old.calls; stops = raised old.stops; last = Some refusal })
 
 -- a read, and the bytes that it gave

@@ -3,6 +3,10 @@ use Rattle.std.specs.Prelude.{◌≡◌, ℕ, List, [], ◌∷◌, Option, Some,
 use Rattle.hier_types.specs.declared.faults.NoSpace.{NoSpace}
 use Rattle.hier_types.specs.Calls.{Answer}
 
+-- the line is held
+abbrev pub IsHeld : Option ℕ → ℕ → Type 0
+IsHeld held line = held ≡ Some line
+
 -- one call of a port, with its arguments and its answer
 pub data PortCall : Type 0 where
   Touch : (line : ℕ) → (answer : Answer) → PortCall

@@ -1,7 +1,7 @@
-//! The words that the crates of the simulator share: lines and pages, the guest's span, settings, counts, and the traits
-//! between layers. Contracts see a memory as its lines, a port as its bytes, and what stands outside as bytes that
-//! are told or not. Nothing here knows of instructions, caches or codecs. The forms in memory of sources, sinks and
-//! shelves serve tests; plain lines are a memory that is not compressed.
+//! What the crates of the simulator share, by subject: lines, pages and the guest's span; the traits between layers, with
+//! a memory of plain lines; the settings, the word of beats and the codecs' names; what is counted; one access of a
+//! trace; and the traits of what stands outside, with their forms in memory. Contracts see a memory as its lines, a port
+//! as its bytes, and what stands outside as bytes that are told or not.
 #![tactic(auto)]
 
 mod access;

@@ -1,7 +1,8 @@
 // The bytes of the guest, as an instruction reaches them.
-ghost use Rattle.std.specs.Prelude.{◌≡◌, ◌-◌, ◌*◌, List, ℕ, Option, Result, Some, None, length, OnOk, OnErr, slice_index, slice_set};
+ghost use Rattle.std.specs.Prelude.{◌≡◌, ◌-◌, ◌*◌, List, ℕ, Option, Result, None, length, OnOk, OnErr, slice_index, slice_set};
 ghost use Rattle.hier_types.specs.declared.faults.NoSpace.{NoSpace};
 ghost use Rattle.hier_types.specs.Causes.{Refuses};
+ghost use Rattle.hier_types.specs.PortCalls.{IsHeld};
 ghost use Rattle.hier_types.specs.Span.{Span, first, Has, HasLine, line_at};
 
 use crate::faults::NoSpace;
@@ -38,7 +39,7 @@ pub trait Port {
     /// Holds a line. On a refusal no line is held. The bytes stay in any case.
     fn touch(&mut self, line: LineNo) -> Result<(), NoSpace>
         requires { HasLine (span self.old) line.0 }
-        ensures held { OnOk result (held self.new ≡ Some line.0) }
+        ensures held { OnOk result (IsHeld (held self.new) line.0) }
         ensures none { OnErr result (held self.new ≡ None) }
         ensures bytes { bytes self.new ≡ bytes self.old }
         ensures span { span self.new ≡ span self.old }
@@ -48,13 +49,13 @@ pub trait Port {
     /// The byte at an address of the held line.
     fn peek(&self, at: u32) -> u8
         requires has { Has (span self.now) at }
-        requires held { held self.now ≡ Some (line_at (span self.now) at) }
+        requires held { IsHeld (held self.now) (line_at (span self.now) at) }
         ensures { result ≡ slice_index (bytes self.now) (at - first (span self.now)) };
 
     /// Changes the byte at an address of the held line, which stays held.
     fn poke(&mut self, at: u32, byte: u8)
         requires has { Has (span self.old) at }
-        requires held { held self.old ≡ Some (line_at (span self.old) at) }
+        requires held { IsHeld (held self.old) (line_at (span self.old) at) }
         ensures bytes { bytes self.new ≡ slice_set (bytes self.old) (at - first (span self.old)) byte }
         ensures held { held self.new ≡ held self.old }
         ensures span { span self.new ≡ span self.old }

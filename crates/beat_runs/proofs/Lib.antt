@@ -1,0 +1,4 @@
+pub mod OneRun
+pub mod PointLemmas
+pub mod StandLemmas
+pub mod WordLemmas
