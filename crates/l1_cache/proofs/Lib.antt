@@ -1,2 +1,3 @@
-pub mod StepLemmas
 pub mod BytesLemmas
+pub mod OneLemmas
+pub mod StepLemmas

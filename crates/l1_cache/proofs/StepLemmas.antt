@@ -1,13 +1,14 @@
 -- The steps of a touch, over all sets.
 use Rattle.std.proofs.Common.{◌≡◌, ◌<◌, ◌%◌, ℕ, true, false, List, [], ◌∷◌, Option, Some, None, Ok, Err, length, length-set, set, refl, sym, ap, ◌∙◌, subst, nat_lt, eqb, if◌then◌else◌}
 use Rattle.std.specs.List.{slice_get}
-use Rattle.std.specs.Option.{is_some, IfSome, option_eq}
+use Rattle.std.specs.Option.{is_some, option_eq}
 use Rattle.std.proofs.lemmas.Bool.{eq-eqb, eqb-true}
 use Rattle.hier_types.specs.declared.counts.L1Counts.{L1Counts}
 use Rattle.hier_types.specs.declared.faults.NoSpace.{NoSpace}
 use Rattle.hier_types.specs.Calls.{Answer, Call, Read, Write}
 use Rattle.hier_types.specs.Causes.{raised}
 use Rattle.hier_types.proofs.LineLemmas.{lines-set, line_of_lines}
+use Rattle.hier_types.specs.PortCalls.{IsHeld}
 use Rattle.hier_types.specs.Span.{Span}
 use Rattle.recency.specs.declared.entry.Entry.{Entry}
 use Rattle.recency.specs.Uses.{last_of}
@@ -18,8 +19,12 @@ use Rattle.recency.proofs.FlushLemmas.{back_sound, clean_keeps_first}
 use Rattle.recency.proofs.ListLemmas.{slice_get-set_other, set-set}
 use Rattle.recency.proofs.EntryLemmas.{at_front, entry_of-is, good_entry, last_entry, good_clean_last, good_elsewhere, entry_of-clean_none, last_of-clean_last}
 use Rattle.recency.proofs.LevelLemmas.{set_at-same, sound_step, overlay_step, kept_some, touch_sound, shown_clean_last, shown_put_in, good_put_in, room_cases, unchanged, in_range}
-use Rattle.l1_cache.specs.FirstLevel.{IsLevel}
-use Rattle.l1_cache.specs.Touches.{Brings, Misses, TouchesSet, Steps}
+use Rattle.l1_cache.specs.FirstLevel.{IsFirstLevel}
+use Rattle.l1_cache.specs.Touches.{Brings, Misses, TouchesSet, CountedStep}
+
+-- no other line is held
+pub only_held : {sets : List Kept} (held : Option ℕ) (line : ℕ) → IsHeld held line → IsFirst sets line → (l : ℕ) → IsHeld held l → IsFirst sets l
+only_held {sets} held line is first l other = let k : Some line ≡ Some l = sym is ∙ other in let same : line ≡ l = cc in subst (IsFirst sets) same first
 
 -- the most recent line is touched again
 pub touched_first : (sets : List Kept) (line : ℕ) → line % length sets < length sets → IsFirst sets line → sets ≡ with_set sets line (touched (set_of sets line).lines line)
@@ -56,7 +61,7 @@ touched_front es line e is = rw is refl
 
 -- a touch that finds its line
 pub touch_hit : (sets : List Kept) (counts : L1Counts) (line : ℕ) → is_some (kept_of sets line) ≡ true
-    → Steps TouchesSet sets counts line (Ok tt) (with_set sets line (touched (set_of sets line).lines line)) (record { hits = raised counts.hits; misses = counts.misses; write_backs = counts.write_backs }) []
+    → CountedStep TouchesSet sets counts line (Ok tt) (with_set sets line (touched (set_of sets line).lines line)) (record { hits = raised counts.hits; misses = counts.misses; write_backs = counts.write_backs }) []
 touch_hit sets counts line kept =
     let e = kept_some (kept_of sets line) kept in
     record { change = record { after = touched (set_of sets line).lines line; step = rw e.1 (refl, refl, refl); only = refl }; counts_are = refl }
@@ -138,7 +143,7 @@ cleaned_ready k =
 
 -- the write of the victim was refused
 pub miss_refused : (sets : List Kept) (counts : L1Counts) (line : ℕ) (e : Entry) (n : NoSpace) → line % length sets < length sets
-    → dirty_victim (set_of sets line) ≡ Some e → Steps Misses sets counts line (Err n) sets counts (Write e.line e.bytes (Err n) ∷ [])
+    → dirty_victim (set_of sets line) ≡ Some e → CountedStep Misses sets counts line (Err n) sets counts (Write e.line e.bytes (Err n) ∷ [])
 miss_refused sets counts line e n inside is = record {
   change = record { after = (set_of sets line).lines; step = rw is (refl, refl, refl, refl); only = unchanged sets line inside };
   counts_are = refl;
@@ -147,8 +152,8 @@ miss_refused sets counts line e n inside is = record {
 -- it was answered, and the line is brought
 pub miss_written : (sets : List Kept) (counts : L1Counts) (line : ℕ) (result : Answer) (new : List Kept) (now : L1Counts) (calls : List Call) (e : Entry) → line % length sets < length sets
     → dirty_victim (set_of sets line) ≡ Some e
-    → Steps Brings (with_set sets line (clean_last (set_of sets line).lines)) (record { hits = counts.hits; misses = counts.misses; write_backs = raised counts.write_backs }) line result new now calls
-    → Steps Misses sets counts line result new now (Write e.line e.bytes (Ok tt) ∷ calls)
+    → CountedStep Brings (with_set sets line (clean_last (set_of sets line).lines)) (record { hits = counts.hits; misses = counts.misses; write_backs = raised counts.write_backs }) line result new now calls
+    → CountedStep Misses sets counts line result new now (Write e.line e.bytes (Ok tt) ∷ calls)
 miss_written sets counts line result new now calls e inside is s =
     let k : set_of (with_set sets line (clean_last (set_of sets line).lines)) line ≡ with_lines (set_of sets line) (clean_last (set_of sets line).lines)
     = rw length-set (set_at-same sets (line % length sets) (with_lines (set_of sets line) (clean_last (set_of sets line).lines)) inside) in
@@ -169,66 +174,62 @@ pub ready_cleaned : (sets : List Kept) (line : ℕ) → line % length sets < len
 ready_cleaned sets line inside = rw (length-set, set_at-same sets (line % length sets) (with_lines (set_of sets line) (clean_last (set_of sets line).lines)) inside) (cleaned_ready (set_of sets line))
 
 -- the whole level after a victim was written below, with nothing held
-pub clean_level : {lines : List (List ℕ)} {sets : List Kept} {held : Option ℕ} {span : Span} (level : IsLevel lines sets held span) (line : ℕ) (e : Entry) → dirty_victim (set_of sets line) ≡ Some e → held ≡ None
-    → IsLevel (set lines e.line e.bytes) (with_set sets line (clean_last (set_of sets line).lines)) held span
+pub clean_level : {lines : List (List ℕ)} {sets : List Kept} {held : Option ℕ} {span : Span} (level : IsFirstLevel lines sets held span) (line : ℕ) (e : Entry) → dirty_victim (set_of sets line) ≡ Some e → held ≡ None
+    → IsFirstLevel (set lines e.line e.bytes) (with_set sets line (clean_last (set_of sets line).lines)) held span
 clean_level {lines} {sets} level line e is none = record {
   sound = clean_sound lines sets line level.sound e is;
-  first = rw none tt;
+  first = λ l is. (let k : None ≡ Some l = sym none ∙ is in absurd (let k2 = k in cc));
   size = rw length-set level.size;
 }
 
 -- and after a line was written by a flush
-pub flush_level : {lines : List (List ℕ)} {sets : List Kept} {held : Option ℕ} {span : Span} (level : IsLevel lines sets held span) (e : Entry) → kept_of sets e.line ≡ Some e
-    → IsLevel (set lines e.line e.bytes) (with_clean sets e.line) held span
+pub flush_level : {lines : List (List ℕ)} {sets : List Kept} {held : Option ℕ} {span : Span} (level : IsFirstLevel lines sets held span) (e : Entry) → kept_of sets e.line ≡ Some e
+    → IsFirstLevel (set lines e.line e.bytes) (with_clean sets e.line) held span
 flush_level {lines} {sets} {held} level e kept = record {
   sound = back_sound lines sets level.sound e kept;
-  first = still held level.first;
+  first = λ line is. clean_keeps_first sets e.line line (in_range lines sets e.line level.sound) (level.first line is);
   size = rw length-set level.size;
 }
-  where
-    still : (held : Option ℕ) → IfSome held (IsFirst sets) → IfSome held (IsFirst (with_clean sets e.line))
-    still None is = tt
-    still (Some line) is = clean_keeps_first sets e.line line (in_range lines sets e.line level.sound) is
 
 -- after a line was put in, and is held
-pub put_level : {lines : List (List ℕ)} {sets : List Kept} {held : Option ℕ} {span : Span} (level : IsLevel lines sets held span) (line : ℕ) (bytes : List ℕ) → slice_get lines line ≡ Some bytes → kept_of sets line ≡ None
-    → IsLevel lines (with_set sets line (put_in (set_of sets line) (clean_entry line bytes))) (Some line) span
+pub put_level : {lines : List (List ℕ)} {sets : List Kept} {held : Option ℕ} {span : Span} (level : IsFirstLevel lines sets held span) (line : ℕ) (bytes : List ℕ) → slice_get lines line ≡ Some bytes → kept_of sets line ≡ None
+    → IsFirstLevel lines (with_set sets line (put_in (set_of sets line) (clean_entry line bytes))) (Some line) span
 put_level {lines} {sets} level line bytes below none = record {
   sound = put_sound lines sets line level.sound bytes below none;
-  first = put_first lines sets line level.sound bytes;
+  first = only_held (Some line) line refl (put_first lines sets line level.sound bytes);
   size = level.size;
 }
 
 -- after a kept line was touched, and is held
-pub touch_level : {lines : List (List ℕ)} {sets : List Kept} {held : Option ℕ} {span : Span} (level : IsLevel lines sets held span) (line : ℕ) → is_some (kept_of sets line) ≡ true
-    → IsLevel lines (with_set sets line (touched (set_of sets line).lines line)) (Some line) span
+pub touch_level : {lines : List (List ℕ)} {sets : List Kept} {held : Option ℕ} {span : Span} (level : IsFirstLevel lines sets held span) (line : ℕ) → is_some (kept_of sets line) ≡ true
+    → IsFirstLevel lines (with_set sets line (touched (set_of sets line).lines line)) (Some line) span
 touch_level {lines} {sets} level line kept = record {
   sound = touch_sound lines sets line level.sound kept;
-  first = touch_first lines sets line level.sound kept;
+  first = only_held (Some line) line refl (touch_first lines sets line level.sound kept);
   size = level.size;
 }
 
-pub held_is : (held : Option ℕ) (line : ℕ) → option_eq eqb held (Some line) ≡ true → held ≡ Some line
+pub held_is : (held : Option ℕ) (line : ℕ) → option_eq eqb held (Some line) ≡ true → IsHeld held line
 held_is None line is = absurd (let k = is in cc)
 held_is (Some l) line is = ap Some (eqb-true l line is)
 
 -- the held line is touched again
-pub hit_again : {lines : List (List ℕ)} {sets : List Kept} {held : Option ℕ} {span : Span} (level : IsLevel lines sets held span) (counts : L1Counts) (line : ℕ) → held ≡ Some line
-    → Steps TouchesSet sets counts line (Ok tt) sets (record { hits = raised counts.hits; misses = counts.misses; write_backs = counts.write_backs }) []
+pub hit_again : {lines : List (List ℕ)} {sets : List Kept} {held : Option ℕ} {span : Span} (level : IsFirstLevel lines sets held span) (counts : L1Counts) (line : ℕ) → IsHeld held line
+    → CountedStep TouchesSet sets counts line (Ok tt) sets (record { hits = raised counts.hits; misses = counts.misses; write_backs = counts.write_backs }) []
 hit_again {lines} {sets} level counts line is =
-    let first : IsFirst sets line = rw is at level.first in
-    subst (λ new. Steps TouchesSet sets counts line (Ok tt) new (record { hits = raised counts.hits; misses = counts.misses; write_backs = counts.write_backs }) [])
+    let first : IsFirst sets line = level.first line is in
+    subst (λ new. CountedStep TouchesSet sets counts line (Ok tt) new (record { hits = raised counts.hits; misses = counts.misses; write_backs = counts.write_backs }) [])
     (sym (touched_first sets line (in_range lines sets line level.sound) first)) (touch_hit sets counts line (first_kept sets line first))
 
 -- a line was read from below, or its read was refused
-pub bring_refused : (sets : List Kept) (counts : L1Counts) (line : ℕ) (n : NoSpace) → line % length sets < length sets → Steps Brings sets counts line (Err n) sets counts (Read line (Err n) ∷ [])
+pub bring_refused : (sets : List Kept) (counts : L1Counts) (line : ℕ) (n : NoSpace) → line % length sets < length sets → CountedStep Brings sets counts line (Err n) sets counts (Read line (Err n) ∷ [])
 bring_refused sets counts line n inside = record {
   change = record { after = (set_of sets line).lines; step = (refl, refl, refl); only = unchanged sets line inside };
   counts_are = refl;
 }
 
 pub bring_read : (sets : List Kept) (counts : L1Counts) (line : ℕ) (bytes : List ℕ)
-    → Steps Brings sets counts line (Ok tt) (with_set sets line (put_in (set_of sets line) (clean_entry line bytes))) (record { hits = counts.hits; misses = raised counts.misses; write_backs = counts.write_backs }) (Read line (Ok bytes) ∷ [])
+    → CountedStep Brings sets counts line (Ok tt) (with_set sets line (put_in (set_of sets line) (clean_entry line bytes))) (record { hits = counts.hits; misses = raised counts.misses; write_backs = counts.write_backs }) (Read line (Ok bytes) ∷ [])
 bring_read sets counts line bytes = record {
   change = record { after = put_in (set_of sets line) (clean_entry line bytes); step = (refl, refl); only = refl };
   counts_are = refl;

@@ -40,21 +40,21 @@ counted counts (Write line bytes (Ok u) ∷ calls) result = counted (record { hi
 counted counts calls result = counts
 
 -- A step of one set, and the counts after it.
-pub record Steps (Step : Kept → ℕ → List Call → Answer → List Entry → Type 0) (sets : List Kept) (counts : L1Counts) (line : ℕ) (result : Answer) (new : List Kept) (now : L1Counts) (calls : List Call) : Type 0 where
+pub record CountedStep (Step : Kept → ℕ → List Call → Answer → List Entry → Type 0) (sets : List Kept) (counts : L1Counts) (line : ℕ) (result : Answer) (new : List Kept) (now : L1Counts) (calls : List Call) : Type 0 where
   pub change : Changes Step sets line result new calls
   pub counts_are : now ≡ counted counts calls result
 
 -- a touch of a line
 abbrev pub Touches : List Kept → L1Counts → ℕ → Answer → List Kept → L1Counts → List Call → Type 0
-Touches sets counts line result new now calls = Steps TouchesSet sets counts line result new now calls
+Touches sets counts line result new now calls = CountedStep TouchesSet sets counts line result new now calls
 
 -- a read of a whole line touches it, and gives its copy
-abbrev pub Reads : List Kept → L1Counts → ℕ → Result (List ℕ) NoSpace → List Kept → L1Counts → List Call → Type 0
-Reads sets counts line (Ok bytes) new now calls = Touches sets counts line (Ok tt) new now calls × FirstHas new line bytes
-Reads sets counts line (Err refusal) new now calls = Touches sets counts line (Err refusal) new now calls
+abbrev pub ReadsFirst : List Kept → L1Counts → ℕ → Result (List ℕ) NoSpace → List Kept → L1Counts → List Call → Type 0
+ReadsFirst sets counts line (Ok bytes) new now calls = Touches sets counts line (Ok tt) new now calls × FirstHas new line bytes
+ReadsFirst sets counts line (Err refusal) new now calls = Touches sets counts line (Err refusal) new now calls
 
 -- a write of a whole line touches it, and then changes its copy, which is dirty
-abbrev pub Writes : List Kept → L1Counts → ℕ → List ℕ → Answer → List Kept → L1Counts → List Call → Type 0
-Writes sets counts line bytes (Ok u) new now calls =
-    (mid : List Kept) × Touches sets counts line (Ok tt) mid now calls × (new ≡ with_set mid line (overwritten (set_of mid line).lines bytes))
-Writes sets counts line bytes (Err refusal) new now calls = Touches sets counts line (Err refusal) new now calls
+abbrev pub WritesFirst : List Kept → L1Counts → ℕ → List ℕ → Answer → List Kept → L1Counts → List Call → Type 0
+WritesFirst sets counts line bytes (Ok u) new now calls =
+    (mid : List Kept) × Touches sets counts line (Ok tt) mid now calls × (new ≡ with_set mid line (overwritten (set_of mid line).lines line bytes))
+WritesFirst sets counts line bytes (Err refusal) new now calls = Touches sets counts line (Err refusal) new now calls

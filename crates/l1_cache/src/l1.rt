@@ -1,15 +1,16 @@
 // The first level over any layer.
-ghost use Rattle.std.specs.Prelude.{◌≡◌, ◌<◌, ◌*◌, ◌-◌, ◌%◌, ℕ, List, [], true, false, Some, None, Ok, OnOk, OnErr, IfOk, length, replicate, slice_get, slice_set};
+ghost use Rattle.std.specs.Prelude.{◌≡◌, ◌<◌, ◌*◌, [], true, false, Some, None, Ok, OnOk, OnErr, IfOk, length, replicate, slice_get, slice_set};
 ghost use Rattle.hier_types.specs.Calls.{Makes};
 ghost use Rattle.hier_types.specs.Causes.{raised, Refuses};
 ghost use Rattle.hier_types.specs.Lines.{flatten};
+ghost use Rattle.hier_types.specs.PortCalls.{IsHeld};
 ghost use Rattle.hier_types.specs.Settings.{IsWithin, IsPowerOfTwo};
-ghost use Rattle.hier_types.specs.Span.{Span, first, line_at};
-ghost use Rattle.recency.specs.Kept.{clean_last, dirty_victim, overwritten, poked};
-ghost use Rattle.recency.specs.Levels.{set_of, with_set, kept_of, overlay, IsFirst, FirstHas, KeepsUnder};
-ghost use Rattle.recency.specs.Steps.{with_clean, Flushes};
-ghost use Rattle.l1_cache.specs.FirstLevel.{lines_of};
-ghost use Rattle.l1_cache.specs.Touches.{Brings, Misses, Steps, Touches, Reads, Writes};
+ghost use Rattle.recency.specs.Kept.{clean_last, dirty_victim, overwritten};
+ghost use Rattle.recency.specs.Levels.{set_of, with_set, kept_of, FirstHas, KeepsUnder};
+ghost use Rattle.recency.specs.Steps.{with_clean};
+ghost use Rattle.l1_cache.specs.FirstCalls.{FirstTouch, FirstRead, FirstWrite, FirstPoke, FirstFlushes};
+ghost use Rattle.l1_cache.specs.FirstLevel.{lines_of_first};
+ghost use Rattle.l1_cache.specs.Touches.{Brings, Misses, CountedStep, Touches};
 
 use hier_types::{
     Errand, Geometry, L1Counts, LINE_BYTES, Layer, Line, LineNo, NoMemory, NoSpace, Port,
@@ -30,13 +31,13 @@ pub struct L1<B: Layer> {
 }
 
 impl<B: Layer> Model for L1<B> {
-    ghost use Rattle.l1_cache.specs.FirstLevel.{Seen, IsLevel};
+    ghost use Rattle.l1_cache.specs.FirstLevel.{FirstLevel, IsFirstLevel};
 
-    ghost Value = { Seen B };
+    ghost Value = { FirstLevel B };
 
     ghost view = { λ a. record { below = a.below; sets = a.sets; held = a.held; counts = a.counts; span = a.span } };
 
-    ghost invariant = { λ a. IsLevel (B.content a.below) a.sets a.held a.span };
+    ghost invariant = { λ a. IsFirstLevel (B.content a.below) a.sets a.held a.span };
 }
 
 /// Counts one more. At the end of its 64 bits a count stays.
@@ -111,13 +112,10 @@ impl<B: Layer> L1<B> {
     /// lines that were written are clean then; which lines are kept, their order, what is held and the counts stay. Where
     /// none was refused, the layer below has all lines.
     pub fn flush(&mut self) -> Result<(), NoSpace>
-        ensures content { lines_of B.content self.new ≡ lines_of B.content self.old }
-        ensures held { self.new.held ≡ self.old.held }
-        ensures counts { self.new.counts ≡ self.old.counts }
-        ensures span { self.new.span ≡ self.old.span }
+        ensures content { lines_of_first B.content self.new ≡ lines_of_first B.content self.old }
         ensures cause { Refuses (B.stops self.old.below) (B.stops self.new.below) (B.crowded self.new.below) result }
-        ensures did { Makes B.did_read B.did_write self.old.below (Flushes result self.new.sets self.old.sets) self.new.below }
-        ensures settled { OnOk result (B.content self.new.below ≡ lines_of B.content self.new) }
+        ensures did { FirstFlushes B.did_read B.did_write self.old result self.new }
+        ensures settled { OnOk result (B.content self.new.below ≡ lines_of_first B.content self.new) }
     {
         let mut from = 0;
         while let Some(entry) = self.sets.next_dirty(from) {
@@ -132,7 +130,7 @@ impl<B: Layer> L1<B> {
     /// Writes a line below that is kept, and marks it clean.
     fn write_back(&mut self, entry: &Entry) -> Result<(), NoSpace>
         requires { kept_of self.old.sets entry.now.line ≡ Some entry.now }
-        ensures content { lines_of B.content self.new ≡ lines_of B.content self.old }
+        ensures content { lines_of_first B.content self.new ≡ lines_of_first B.content self.old }
         ensures held { self.new.held ≡ self.old.held }
         ensures counts { self.new.counts ≡ self.old.counts }
         ensures span { self.new.span ≡ self.old.span }
@@ -150,9 +148,9 @@ impl<B: Layer> L1<B> {
 
     /// Makes the line the most recent of its set, and holds it. Where that is refused, no line is held.
     fn touch_line(&mut self, line: LineNo) -> Result<(), NoSpace>
-        requires { line.0 < length (lines_of B.content self.old) }
-        ensures content { lines_of B.content self.new ≡ lines_of B.content self.old }
-        ensures held { OnOk result (self.new.held ≡ Some line.0) }
+        requires { line.0 < length (lines_of_first B.content self.old) }
+        ensures content { lines_of_first B.content self.new ≡ lines_of_first B.content self.old }
+        ensures held { OnOk result (IsHeld self.new.held line.0) }
         ensures none { OnErr result (self.new.held ≡ None) }
         ensures span { self.new.span ≡ self.old.span }
         ensures cause { Refuses (B.stops self.old.below) (B.stops self.new.below) (B.crowded self.new.below) result }
@@ -166,8 +164,8 @@ impl<B: Layer> L1<B> {
 
     /// Touches a line that is kept. Nothing changes where it is not.
     fn hit(&mut self, line: LineNo) -> bool
-        ensures content { lines_of B.content self.new ≡ lines_of B.content self.old }
-        ensures held { result ≡ true → self.new.held ≡ Some line.0 }
+        ensures content { lines_of_first B.content self.new ≡ lines_of_first B.content self.old }
+        ensures held { result ≡ true → IsHeld self.new.held line.0 }
         ensures below { self.new.below ≡ self.old.below }
         ensures span { self.new.span ≡ self.old.span }
         ensures did { result ≡ true → Touches self.old.sets self.old.counts line.0 (Ok tt) self.new.sets self.new.counts [] }
@@ -188,14 +186,14 @@ impl<B: Layer> L1<B> {
 
     /// Touches a line that is not kept.
     fn miss(&mut self, line: LineNo) -> Result<(), NoSpace>
-        requires inside { line.0 < length (lines_of B.content self.old) }
+        requires inside { line.0 < length (lines_of_first B.content self.old) }
         requires absent { kept_of self.old.sets line.0 ≡ None }
-        ensures content { lines_of B.content self.new ≡ lines_of B.content self.old }
-        ensures held { OnOk result (self.new.held ≡ Some line.0) }
+        ensures content { lines_of_first B.content self.new ≡ lines_of_first B.content self.old }
+        ensures held { OnOk result (IsHeld self.new.held line.0) }
         ensures none { OnErr result (self.new.held ≡ None) }
         ensures span { self.new.span ≡ self.old.span }
         ensures cause { Refuses (B.stops self.old.below) (B.stops self.new.below) (B.crowded self.new.below) result }
-        ensures did { Makes B.did_read B.did_write self.old.below (Steps Misses self.old.sets self.old.counts line.0 result self.new.sets self.new.counts) self.new.below }
+        ensures did { Makes B.did_read B.did_write self.old.below (CountedStep Misses self.old.sets self.old.counts line.0 result self.new.sets self.new.counts) self.new.below }
     {
         self.held = None;
         let Some(victim) = self.sets.dirty_victim(line.0) else {
@@ -211,7 +209,7 @@ impl<B: Layer> L1<B> {
     fn put_out(&mut self, line: LineNo, victim: &Entry) -> Result<(), NoSpace>
         requires victim { dirty_victim (set_of self.old.sets line.0) ≡ Some victim.now }
         requires free { self.old.held ≡ None }
-        ensures content { lines_of B.content self.new ≡ lines_of B.content self.old }
+        ensures content { lines_of_first B.content self.new ≡ lines_of_first B.content self.old }
         ensures held { self.new.held ≡ None }
         ensures span { self.new.span ≡ self.old.span }
         ensures ok { OnOk result (self.new.sets ≡ with_set self.old.sets line.0 (clean_last (set_of self.old.sets line.0).lines)) }
@@ -231,16 +229,16 @@ impl<B: Layer> L1<B> {
 
     /// Reads a line from below that is not kept, puts it in and holds it. The line that it replaces is clean.
     fn bring(&mut self, line: LineNo) -> Result<(), NoSpace>
-        requires inside { line.0 < length (lines_of B.content self.old) }
+        requires inside { line.0 < length (lines_of_first B.content self.old) }
         requires absent { kept_of self.old.sets line.0 ≡ None }
         requires ready { dirty_victim (set_of self.old.sets line.0) ≡ None }
         requires free { self.old.held ≡ None }
-        ensures content { lines_of B.content self.new ≡ lines_of B.content self.old }
-        ensures held { OnOk result (self.new.held ≡ Some line.0) }
+        ensures content { lines_of_first B.content self.new ≡ lines_of_first B.content self.old }
+        ensures held { OnOk result (IsHeld self.new.held line.0) }
         ensures none { OnErr result (self.new.held ≡ None) }
         ensures span { self.new.span ≡ self.old.span }
         ensures cause { Refuses (B.stops self.old.below) (B.stops self.new.below) (B.crowded self.new.below) result }
-        ensures did { Makes B.did_read B.did_write self.old.below (Steps Brings self.old.sets self.old.counts line.0 result self.new.sets self.new.counts) self.new.below }
+        ensures did { Makes B.did_read B.did_write self.old.below (CountedStep Brings self.old.sets self.old.counts line.0 result self.new.sets self.new.counts) self.new.below }
     {
         let mut bytes: Line = [0; 64];
         if let Err(refusal) = self.below.read(line, &mut bytes) {
@@ -254,9 +252,9 @@ impl<B: Layer> L1<B> {
 
     /// The bytes of the held line.
     fn copy_held(&self, line: LineNo, into: &mut Line)
-        requires inside { line.0 < length (lines_of B.content self.now) }
-        requires held { self.now.held ≡ Some line.0 }
-        ensures bytes { slice_get (lines_of B.content self.now) line.0 ≡ Some into.new }
+        requires inside { line.0 < length (lines_of_first B.content self.now) }
+        requires held { IsHeld self.now.held line.0 }
+        ensures bytes { slice_get (lines_of_first B.content self.now) line.0 ≡ Some into.new }
         ensures first { FirstHas self.now.sets line.0 into.new }
     {
         self.sets.copy_first(line.0, into);
@@ -264,10 +262,10 @@ impl<B: Layer> L1<B> {
 
     /// Changes the held line, which is dirty from now on.
     fn set_held(&mut self, line: LineNo, from: &Line)
-        requires inside { line.0 < length (lines_of B.content self.old) }
-        requires held { self.old.held ≡ Some line.0 }
-        ensures content { lines_of B.content self.new ≡ slice_set (lines_of B.content self.old) line.0 from.now }
-        ensures sets { self.new.sets ≡ with_set self.old.sets line.0 (overwritten (set_of self.old.sets line.0).lines from.now) }
+        requires inside { line.0 < length (lines_of_first B.content self.old) }
+        requires held { IsHeld self.old.held line.0 }
+        ensures content { lines_of_first B.content self.new ≡ slice_set (lines_of_first B.content self.old) line.0 from.now }
+        ensures sets { self.new.sets ≡ with_set self.old.sets line.0 (overwritten (set_of self.old.sets line.0).lines line.0 from.now) }
         ensures below { self.new.below ≡ self.old.below }
         ensures held { self.new.held ≡ self.old.held }
         ensures counts { self.new.counts ≡ self.old.counts }
@@ -278,15 +276,15 @@ impl<B: Layer> L1<B> {
 }
 
 impl<B: Layer> Layer for L1<B> {
-    ghost content = { λ s. lines_of B.content s };
+    ghost content = { λ s. lines_of_first B.content s };
 
     ghost stops = { λ s. B.stops s.below };
 
     ghost crowded = { λ s n. B.crowded s.below n };
 
-    ghost did_read = { λ s line answer t. (t.span ≡ s.span) × Makes B.did_read B.did_write s.below (Reads s.sets s.counts line answer t.sets t.counts) t.below };
+    ghost did_read = { FirstRead B.did_read B.did_write };
 
-    ghost did_write = { λ s line bytes answer t. (t.span ≡ s.span) × Makes B.did_read B.did_write s.below (Writes s.sets s.counts line bytes answer t.sets t.counts) t.below };
+    ghost did_write = { FirstWrite B.did_read B.did_write };
 
     fn lines(&self) -> u32 {
         self.below.lines()
@@ -319,7 +317,7 @@ impl<B: Layer> Layer for L1<B> {
 impl<B: Layer> Port for L1<B> {
     ghost span = { λ s. s.span };
 
-    ghost bytes = { λ s. flatten (lines_of B.content s) };
+    ghost bytes = { λ s. flatten (lines_of_first B.content s) };
 
     ghost held = { λ s. s.held };
 
@@ -327,9 +325,9 @@ impl<B: Layer> Port for L1<B> {
 
     ghost crowded = { λ s n. B.crowded s.below n };
 
-    ghost did_touch = { λ s line result t. (t.span ≡ s.span) × Makes B.did_read B.did_write s.below (Touches s.sets s.counts line result t.sets t.counts) t.below };
+    ghost did_touch = { FirstTouch B.did_read B.did_write };
 
-    ghost did_poke = { λ s at byte t. (t.span ≡ s.span) × (t.below ≡ s.below) × (t.counts ≡ s.counts) × (t.sets ≡ with_set s.sets (line_at s.span at) (poked (set_of s.sets (line_at s.span at)).lines ((at - first s.span) % 64) byte)) };
+    ghost did_poke = { FirstPoke };
 
     fn span(&self) -> Geometry {
         self.span

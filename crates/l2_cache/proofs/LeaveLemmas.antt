@@ -17,7 +17,7 @@ use Rattle.recency.proofs.UseLemmas.{by_eq}
 use Rattle.recency.proofs.EntryLemmas.{at_front, past_front, good_entry, good_elsewhere, good_without, gone, last_entry, entry_of-without_other}
 use Rattle.recency.proofs.LevelLemmas.{shown, shown_kept, set_at-same, set_at-other, sound_step, overlay_step, room_cases, unchanged, slice_get-overlay, length-overlay, in_range}
 use Rattle.l2_cache.specs.Room.{has_space, leaver}
-use Rattle.l2_cache.specs.Turns.{written, Stays, MakesRoom, in_front, PutsOut}
+use Rattle.l2_cache.specs.Turns.{written, CannotLeave, MakesRoom, in_front, WritesIfDirty}
 
 -- a line that is not kept is not kept after another leaves
 pub without_none : (es : List Entry) (line x : ℕ) → entry_of es x ≡ None → entry_of (without es line) x ≡ None
@@ -177,12 +177,12 @@ room_refused size sets line bytes e n inside is dirty = record {
 abbrev pub one_more : Entry → List Call → List Call
 one_more e calls = if e.dirty then Write e.line e.bytes (Ok tt) ∷ calls else calls
 
-written_more : (e : Entry) (es : List Entry) (rest : List Call) → written (e ∷ es) ++ rest ≡ one_more e (written es ++ rest)
+pub written_more : (e : Entry) (es : List Entry) (rest : List Call) → written (e ∷ es) ++ rest ≡ one_more e (written es ++ rest)
 written_more e es rest = room_cases e.dirty _ (λ t. rw t refl) (λ f. rw f refl)
 
 more_end : (size : List ℕ → ℕ) (bytes : List ℕ) (k : Kept) (line : ℕ) (e : Entry) (gone : List Entry) (after : List Entry) (calls : List Call) (result : Answer)
-    → MatchResult result (λ _. (leaver size (with_lines k after) line bytes ≡ None) × (calls ≡ written gone)) (λ n. Stays size bytes (with_lines k after) line n gone calls)
-    → MatchResult result (λ _. (leaver size (with_lines k after) line bytes ≡ None) × (one_more e calls ≡ written (e ∷ gone))) (λ n. Stays size bytes (with_lines k after) line n (e ∷ gone) (one_more e calls))
+    → MatchResult result (λ _. (leaver size (with_lines k after) line bytes ≡ None) × (calls ≡ written gone)) (λ n. CannotLeave size bytes (with_lines k after) line n gone calls)
+    → MatchResult result (λ _. (leaver size (with_lines k after) line bytes ≡ None) × (one_more e calls ≡ written (e ∷ gone))) (λ n. CannotLeave size bytes (with_lines k after) line n (e ∷ gone) (one_more e calls))
 more_end size bytes k line e gone after calls (Ok x) end = (end.0, ap (one_more e) end.1)
 more_end size bytes k line e gone after calls (Err n) end = record { entry = end.entry; next = end.next; dirty = end.dirty; made = ap (one_more e) end.made ∙ sym (written_more e gone _) }
 
@@ -202,7 +202,7 @@ room_more size sets line bytes e result new calls inside is ch =
 
 -- the calls of one that leaves, and those of the rest
 pub Makes-more : {B : Type 0} (did_read : B → ℕ → Result (List ℕ) NoSpace → B → Type 0) (did_write : B → ℕ → List ℕ → Answer → B → Type 0)
-    (s m t : B) (Rest Gives : List Call → Type 0) (e : Entry) → PutsOut did_write s e (Ok tt) m → Makes did_read did_write m Rest t
+    (s m t : B) (Rest Gives : List Call → Type 0) (e : Entry) → WritesIfDirty did_write s e (Ok tt) m → Makes did_read did_write m Rest t
     → ((calls : List Call) → Rest calls → Gives (one_more e calls)) → Makes did_read did_write s Gives t
 Makes-more did_read did_write s m t Rest Gives e did rest gives =
     room_cases e.dirty _
@@ -211,7 +211,7 @@ Makes-more did_read did_write s m t Rest Gives e did rest gives =
 
 -- a write that is refused
 pub Makes-refused : {B : Type 0} (did_read : B → ℕ → Result (List ℕ) NoSpace → B → Type 0) (did_write : B → ℕ → List ℕ → Answer → B → Type 0)
-    (s t : B) (Gives : List Call → Type 0) (e : Entry) (n : NoSpace) → PutsOut did_write s e (Err n) t
+    (s t : B) (Gives : List Call → Type 0) (e : Entry) (n : NoSpace) → WritesIfDirty did_write s e (Err n) t
     → (e.dirty ≡ true → Gives (Write e.line e.bytes (Err n) ∷ [])) → Makes did_read did_write s Gives t
 Makes-refused did_read did_write s t Gives e n did gives =
     room_cases e.dirty _

@@ -1,4 +1,5 @@
 pub mod LeaveLemmas
+pub mod OneLemmas
 pub mod PackedLemmas
 pub mod RoomLemmas
 pub mod SetLemmas

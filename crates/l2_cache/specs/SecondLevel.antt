@@ -19,7 +19,7 @@ pub record AreRooms (codec : Codec) (tags mask : ℕ) (sets : List KeptUnder) : 
   pub alike : All (λ (set : KeptUnder). (set.codec ≡ codec) × (set.kept.ways ≡ tags)) sets
 
 -- what is seen of a second level; the cursor is the number of the cleaner's set
-pub record Seen (B : Type 0) : Type 0 where
+pub record SecondLevel (B : Type 0) : Type 0 where
   pub below : B
   pub codec : Codec
   pub sets : List Kept
@@ -27,11 +27,11 @@ pub record Seen (B : Type 0) : Type 0 where
   pub counts : L2Counts
 
 -- its lines: the copies that it keeps, and else the lines below
-abbrev pub lines_of : {B : Type 0} → (B → List (List ℕ)) → Seen B → List (List ℕ)
-lines_of content level = overlay (content level.below) level.sets
+abbrev pub lines_of_second : {B : Type 0} → (B → List (List ℕ)) → SecondLevel B → List (List ℕ)
+lines_of_second content level = overlay (content level.below) level.sets
 
 -- The sets fit the lines below, and the cleaner stands at one of them.
-pub record IsLevel (lines : List (List ℕ)) (sets : List Kept) (cursor : ℕ) : Type 0 where
+pub record IsSecondLevel (lines : List (List ℕ)) (sets : List Kept) (cursor : ℕ) : Type 0 where
   pub sound : IsSound lines sets
   pub turn : cursor < length sets
   pub few : length sets ≤ 4096

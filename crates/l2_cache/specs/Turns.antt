@@ -23,7 +23,7 @@ written [] = []
 written (e ∷ es) = if e.dirty then Write e.line e.bytes (Ok tt) ∷ written es else written es
 
 -- The next one to leave is dirty, and its write below is refused.
-pub record Stays (size : List ℕ → ℕ) (bytes : List ℕ) (set : Kept) (line : ℕ) (refusal : NoSpace) (gone : List Entry) (calls : List Call) : Type 0 where
+pub record CannotLeave (size : List ℕ → ℕ) (bytes : List ℕ) (set : Kept) (line : ℕ) (refusal : NoSpace) (gone : List Entry) (calls : List Call) : Type 0 where
   pub entry : Entry
   pub next : leaver size set line bytes ≡ Some entry
   pub dirty : entry.dirty ≡ true
@@ -35,7 +35,7 @@ pub record MakesRoom (size : List ℕ → ℕ) (bytes : List ℕ) (set : Kept) (
   pub leave : Leave size bytes set line gone after
   pub end : MatchResult result
       (λ _. (leaver size (with_lines set after) line bytes ≡ None) × (calls ≡ written gone))
-      (λ refusal. Stays size bytes (with_lines set after) line refusal gone calls)
+      (λ refusal. CannotLeave size bytes (with_lines set after) line refusal gone calls)
 
 -- the entry in front of its set, and an older one of its line no more
 abbrev pub in_front : List Kept → Entry → List Kept
@@ -96,5 +96,5 @@ turn_answer Nothing = Ok tt
 turn_answer (PutOff refusal) = Err refusal
 
 -- An entry that is dirty is written below before it leaves.
-abbrev pub PutsOut : {B : Type 0} → (B → ℕ → List ℕ → Answer → B → Type 0) → B → Entry → Answer → B → Type 0
-PutsOut did_write before e result after = MatchBool e.dirty (did_write before e.line e.bytes result after) ((after ≡ before) × (result ≡ Ok tt))
+abbrev pub WritesIfDirty : {B : Type 0} → (B → ℕ → List ℕ → Answer → B → Type 0) → B → Entry → Answer → B → Type 0
+WritesIfDirty did_write before e result after = MatchBool e.dirty (did_write before e.line e.bytes result after) ((after ≡ before) × (result ≡ Ok tt))

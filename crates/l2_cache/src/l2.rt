@@ -1,15 +1,16 @@
 // The second level over any layer.
-ghost use Rattle.std.specs.Prelude.{◌≡◌, ◌<◌, ◌*◌, ℕ, [], true, false, Some, None, Ok, OnOk, OnErr, IfOk, IfErr, is_some, length, replicate, slice_get, slice_set};
+ghost use Rattle.std.specs.Prelude.{◌≡◌, ◌<◌, ◌*◌, [], true, false, Some, None, Ok, OnOk, OnErr, IfOk, is_some, length, replicate, slice_get, slice_set};
 ghost use Rattle.hier_types.specs.Calls.{Makes};
 ghost use Rattle.hier_types.specs.Causes.{raised, Refuses};
 ghost use Rattle.hier_types.specs.Settings.{IsWithin, IsPowerOfTwo};
 ghost use Rattle.line_codec.specs.Slots.{size_under};
-ghost use Rattle.recency.specs.Kept.{without, touched};
+ghost use Rattle.recency.specs.Kept.{without};
 ghost use Rattle.recency.specs.Levels.{set_of, with_set, kept_of, KeepsUnder};
-ghost use Rattle.recency.specs.Steps.{with_clean, Changes, Flushes};
+ghost use Rattle.recency.specs.Steps.{with_clean, Changes};
 ghost use Rattle.l2_cache.specs.Room.{has_space, leaver};
-ghost use Rattle.l2_cache.specs.SecondLevel.{lines_of};
-ghost use Rattle.l2_cache.specs.Turns.{MakesRoom, PutsInFront, PutsOut, ReadMisses, ReadsSecond, WritesSecond, raised_if, read_counted, write_counted, next_set, Cleans, turn_answer};
+ghost use Rattle.l2_cache.specs.SecondCalls.{SecondRead, SecondWrite, SecondCleans, SecondFlushes};
+ghost use Rattle.l2_cache.specs.SecondLevel.{lines_of_second};
+ghost use Rattle.l2_cache.specs.Turns.{MakesRoom, PutsInFront, WritesIfDirty, ReadMisses, ReadsSecond, raised_if, read_counted, next_set, turn_answer};
 
 use crate::clean::Clean;
 use crate::room_sets::RoomSets;
@@ -29,13 +30,13 @@ pub struct L2<B: Layer> {
 }
 
 impl<B: Layer> Model for L2<B> {
-    ghost use Rattle.l2_cache.specs.SecondLevel.{Seen, IsLevel};
+    ghost use Rattle.l2_cache.specs.SecondLevel.{SecondLevel, IsSecondLevel};
 
-    ghost Value = { Seen B };
+    ghost Value = { SecondLevel B };
 
     ghost view = { λ a. record { below = a.below; codec = a.rooms.codec; sets = a.rooms.sets; cursor = a.cursor; counts = a.counts } };
 
-    ghost invariant = { λ a. IsLevel (B.content a.below) a.rooms.sets a.cursor };
+    ghost invariant = { λ a. IsSecondLevel (B.content a.below) a.rooms.sets a.cursor };
 }
 
 /// Counts a call, and a hit where its line was kept.
@@ -112,12 +113,9 @@ impl<B: Layer> L2<B> {
     /// Writes the least recent dirty line of the cleaner's set below, and marks it clean. Whatever comes of it, the next
     /// set has the next turn. No order of use and no kept line changes.
     pub fn clean_turn(&mut self) -> Clean
-        ensures content { lines_of B.content self.new ≡ lines_of B.content self.old }
-        ensures codec { self.new.codec ≡ self.old.codec }
-        ensures cursor { self.new.cursor ≡ next_set self.old.cursor (length self.old.sets) }
-        ensures counts { self.new.counts ≡ self.old.counts }
+        ensures content { lines_of_second B.content self.new ≡ lines_of_second B.content self.old }
         ensures cause { Refuses (B.stops self.old.below) (B.stops self.new.below) (B.crowded self.new.below) (turn_answer result) }
-        ensures did { Makes B.did_read B.did_write self.old.below (Cleans self.old.sets self.old.cursor result self.new.sets) self.new.below }
+        ensures did { SecondCleans B.did_read B.did_write self.old result self.new }
     {
         let set = self.cursor;
         self.move_on();
@@ -149,13 +147,10 @@ impl<B: Layer> L2<B> {
     /// lines that were written are clean then; which lines are kept, their order, the cursor and the counts stay. Where
     /// none was refused, the layer below has all lines.
     pub fn flush(&mut self) -> Result<(), NoSpace>
-        ensures content { lines_of B.content self.new ≡ lines_of B.content self.old }
-        ensures codec { self.new.codec ≡ self.old.codec }
-        ensures cursor { self.new.cursor ≡ self.old.cursor }
-        ensures counts { self.new.counts ≡ self.old.counts }
+        ensures content { lines_of_second B.content self.new ≡ lines_of_second B.content self.old }
         ensures cause { Refuses (B.stops self.old.below) (B.stops self.new.below) (B.crowded self.new.below) result }
-        ensures did { Makes B.did_read B.did_write self.old.below (Flushes result self.new.sets self.old.sets) self.new.below }
-        ensures settled { OnOk result (B.content self.new.below ≡ lines_of B.content self.new) }
+        ensures did { SecondFlushes B.did_read B.did_write self.old result self.new }
+        ensures settled { OnOk result (B.content self.new.below ≡ lines_of_second B.content self.new) }
     {
         let mut from = 0;
         while let Some(entry) = self.rooms.next_dirty(from) {
@@ -170,7 +165,7 @@ impl<B: Layer> L2<B> {
     /// Writes a dirty line below, and marks it clean.
     fn write_back(&mut self, entry: &Entry) -> Result<(), NoSpace>
         requires { kept_of self.old.sets entry.now.line ≡ Some entry.now }
-        ensures content { lines_of B.content self.new ≡ lines_of B.content self.old }
+        ensures content { lines_of_second B.content self.new ≡ lines_of_second B.content self.old }
         ensures codec { self.new.codec ≡ self.old.codec }
         ensures cursor { self.new.cursor ≡ self.old.cursor }
         ensures counts { self.new.counts ≡ self.old.counts }
@@ -188,7 +183,7 @@ impl<B: Layer> L2<B> {
 
     /// Lets lines leave until there is room for these bytes of a line.
     fn make_room(&mut self, line: u32, bytes: &Line) -> Result<(), NoSpace>
-        ensures content { lines_of B.content self.new ≡ lines_of B.content self.old }
+        ensures content { lines_of_second B.content self.new ≡ lines_of_second B.content self.old }
         ensures codec { self.new.codec ≡ self.old.codec }
         ensures cursor { self.new.cursor ≡ self.old.cursor }
         ensures counts { self.new.counts ≡ self.old.counts }
@@ -208,7 +203,7 @@ impl<B: Layer> L2<B> {
     /// The next line leaves. If it is dirty, it is first written below.
     fn put_out(&mut self, line: u32, bytes: &Line, entry: &Entry) -> Result<(), NoSpace>
         requires { leaver (size_under self.old.codec) (set_of self.old.sets line) line bytes.now ≡ Some entry.now }
-        ensures content { lines_of B.content self.new ≡ lines_of B.content self.old }
+        ensures content { lines_of_second B.content self.new ≡ lines_of_second B.content self.old }
         ensures codec { self.new.codec ≡ self.old.codec }
         ensures cursor { self.new.cursor ≡ self.old.cursor }
         ensures counts { self.new.counts ≡ self.old.counts }
@@ -216,7 +211,7 @@ impl<B: Layer> L2<B> {
         ensures fewer { OnOk result (length (set_of self.new.sets line).lines < length (set_of self.old.sets line).lines) }
         ensures err { OnErr result (self.new.sets ≡ self.old.sets) }
         ensures cause { Refuses (B.stops self.old.below) (B.stops self.new.below) (B.crowded self.new.below) result }
-        ensures did { PutsOut B.did_write self.old.below entry.now result self.new.below }
+        ensures did { WritesIfDirty B.did_write self.old.below entry.now result self.new.below }
     {
         if entry.dirty {
             if let Err(refusal) = self.below.write(LineNo(entry.line), &entry.bytes) {
@@ -231,11 +226,11 @@ impl<B: Layer> L2<B> {
 
     /// Puts a line in front, once there is room.
     fn put_in_front(&mut self, entry: &Entry) -> Result<(), NoSpace>
-        requires inside { entry.now.line < length (lines_of B.content self.old) }
+        requires inside { entry.now.line < length (lines_of_second B.content self.old) }
         requires full { length entry.now.bytes ≡ 64 }
-        requires held { entry.now.dirty ≡ false → (slice_get (lines_of B.content self.old) entry.now.line ≡ Some entry.now.bytes) × (kept_of self.old.sets entry.now.line ≡ None) }
-        ensures ok { OnOk result (lines_of B.content self.new ≡ slice_set (lines_of B.content self.old) entry.now.line entry.now.bytes) }
-        ensures err { OnErr result (lines_of B.content self.new ≡ lines_of B.content self.old) }
+        requires held { entry.now.dirty ≡ false → (slice_get (lines_of_second B.content self.old) entry.now.line ≡ Some entry.now.bytes) × (kept_of self.old.sets entry.now.line ≡ None) }
+        ensures ok { OnOk result (lines_of_second B.content self.new ≡ slice_set (lines_of_second B.content self.old) entry.now.line entry.now.bytes) }
+        ensures err { OnErr result (lines_of_second B.content self.new ≡ lines_of_second B.content self.old) }
         ensures codec { self.new.codec ≡ self.old.codec }
         ensures cursor { self.new.cursor ≡ self.old.cursor }
         ensures counts { self.new.counts ≡ self.old.counts }
@@ -251,13 +246,13 @@ impl<B: Layer> L2<B> {
 
     /// Reads a line that is kept. Nothing changes where it is not.
     fn hit(&mut self, line: LineNo, into: &mut Line) -> bool
-        requires { line.0 < length (lines_of B.content self.old) }
-        ensures content { lines_of B.content self.new ≡ lines_of B.content self.old }
+        requires { line.0 < length (lines_of_second B.content self.old) }
+        ensures content { lines_of_second B.content self.new ≡ lines_of_second B.content self.old }
         ensures codec { self.new.codec ≡ self.old.codec }
         ensures cursor { self.new.cursor ≡ self.old.cursor }
         ensures below { self.new.below ≡ self.old.below }
         ensures found { result ≡ is_some (kept_of self.old.sets line.0) }
-        ensures bytes { result ≡ true → slice_get (lines_of B.content self.old) line.0 ≡ Some into.new }
+        ensures bytes { result ≡ true → slice_get (lines_of_second B.content self.old) line.0 ≡ Some into.new }
         ensures counts { result ≡ true → self.new.counts ≡ read_counted true (Ok into.new) self.old.counts }
         ensures did { result ≡ true → ReadsSecond (size_under self.old.codec) self.old.sets line.0 (Ok into.new) self.new.sets [] }
         ensures same { result ≡ false → self.new ≡ self.old }
@@ -273,10 +268,10 @@ impl<B: Layer> L2<B> {
 
     /// Reads a line that is not kept.
     fn miss(&mut self, line: LineNo) -> Result<Line, NoSpace>
-        requires inside { line.0 < length (lines_of B.content self.old) }
+        requires inside { line.0 < length (lines_of_second B.content self.old) }
         requires absent { kept_of self.old.sets line.0 ≡ None }
-        ensures ok { IfOk result (λ bytes. slice_get (lines_of B.content self.old) line.0 ≡ Some bytes) }
-        ensures content { lines_of B.content self.new ≡ lines_of B.content self.old }
+        ensures ok { IfOk result (λ bytes. slice_get (lines_of_second B.content self.old) line.0 ≡ Some bytes) }
+        ensures content { lines_of_second B.content self.new ≡ lines_of_second B.content self.old }
         ensures codec { self.new.codec ≡ self.old.codec }
         ensures cursor { self.new.cursor ≡ self.old.cursor }
         ensures counts { self.new.counts ≡ self.old.counts }
@@ -300,15 +295,15 @@ impl<B: Layer> L2<B> {
 }
 
 impl<B: Layer> Layer for L2<B> {
-    ghost content = { λ s. lines_of B.content s };
+    ghost content = { λ s. lines_of_second B.content s };
 
     ghost stops = { λ s. B.stops s.below };
 
     ghost crowded = { λ s n. B.crowded s.below n };
 
-    ghost did_read = { λ s line answer t. (t.codec ≡ s.codec) × (t.cursor ≡ s.cursor) × (t.counts ≡ read_counted (is_some (kept_of s.sets line)) answer s.counts) × Makes B.did_read B.did_write s.below (ReadsSecond (size_under s.codec) s.sets line answer t.sets) t.below };
+    ghost did_read = { SecondRead B.did_read B.did_write };
 
-    ghost did_write = { λ s line bytes answer t. (t.codec ≡ s.codec) × (t.cursor ≡ s.cursor) × (t.counts ≡ write_counted (is_some (kept_of s.sets line)) answer s.counts) × Makes B.did_read B.did_write s.below (WritesSecond (size_under s.codec) s.sets line bytes answer t.sets) t.below };
+    ghost did_write = { SecondWrite B.did_read B.did_write };
 
     fn lines(&self) -> u32 {
         self.below.lines()

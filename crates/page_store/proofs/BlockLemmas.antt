@@ -1,16 +1,17 @@
--- The blocks of all pages, before and after one of them moves.
+-- The blocks of all pages, before and after that of one page is changed for another.
 use Rattle.std.proofs.Common.{◌≡◌, ◌≢◌, ◌<◌, ◌∙◌, ℕ, zero, suc, Some, None, Option, IfSome, IsSomeAnd, List, [], ◌∷◌, length, get_or, set, replicate, slice_get, inl, inr, refl, sym, ap, subst, arith}
 use Rattle.std.proofs.lemmas.Bool.{cases_eq}
 use Rattle.std.proofs.lemmas.List.{set-set, set-get_or}
-use Rattle.std.proofs.lemmas.Option.{slice_get_read, get_or_from_slice_get, none-some}
+use Rattle.std.proofs.lemmas.Option.{slice_get_read, get_or_from_slice_get, none-some, same_Some}
 use Rattle.buddy_frames.specs.Units.{Place, place_at, in_use, IsUsedPlace, AreApart}
 use Rattle.buddy_frames.proofs.MoveLemmas.{AreApart-swap}
 use Rattle.page_plan.specs.declared.least.PagePlan.{PagePlan}
+use Rattle.page_plan.specs.declared.least.PagePlan.TheVariants as plan
 use Rattle.page_store.specs.declared.desc.Desc.{Desc}
-use Rattle.page_store.specs.declared.desc.Desc.TheVariants.{Zero}
+use Rattle.page_store.specs.declared.desc.Desc.TheVariants.{Zero, Packed, Raw}
 use Rattle.page_plan.specs.Sizes.{order_of}
-use Rattle.page_store.specs.PageBlocks.{block_of, block_at, IsAtPlan, IsNewBlock, moved, Outgrows, Settles, LacksRoom, IsIn, AreSound, IsFreeFor}
-use Rattle.page_store.specs.Moves.{IsApartFrom, HasNoneBut, Moves}
+use Rattle.page_store.specs.PageBlocks.{block_of, block_at, IsAtPlan, IsNewBlock, moved, Outgrows, ComesToPlan, HasRoom, LacksRoom, IsIn, AreSound, IsFreeFor}
+use Rattle.page_store.specs.BlockChanges.{IsApartFrom, HasNoneBut, ChangesBlock}
 
 -- a fact of the value that there is
 pub at_some : {A : Type 0} (P : A → Type 0) (o : Option A) (x : A) → o ≡ Some x → IfSome o P → P x
@@ -73,7 +74,7 @@ module _ (ds : List Desc) (used : List ℕ) (page : ℕ) (sound : AreSound ds us
         ];
   })
 
-  module _ (d : Desc) (used' : List ℕ) (within : page < length ds) (moves : Moves used (block_at ds page) (block_of d) used') where
+  module _ (d : Desc) (used' : List ℕ) (within : page < length ds) (changes : ChangesBlock used (block_at ds page) (block_of d) used') where
     here : (block : Place) → block_at (set ds page d) page ≡ Some block → block_of d ≡ Some block
     here block e = sym (block_at-same ds page d within) ∙ e
 
@@ -84,14 +85,14 @@ module _ (ds : List Desc) (used : List ℕ) (page : ℕ) (sound : AreSound ds us
     new_apart other block others ne e f =
         let busy = sound.live other others (there other others ne f) in
         let free = others_apart (block_at ds page) other others refl ne (there other others ne f) in
-        at_some (λ block. AreApart block others) (block_of d) block (here block e) (moves.apart others busy free)
+        at_some (λ block. AreApart block others) (block_of d) block (here block e) (changes.apart others busy free)
 
-    -- blocks stay sound where one page's moves
-    pub settled_sound : AreSound (set ds page d) used'
-    settled_sound = record {
+    -- blocks stay sound where one page's is changed
+    pub changed_sound : AreSound (set ds page d) used'
+    changed_sound = record {
       live = λ p block e. elim (cases_eq p page) [
-        | inl same ↦ at_some (IsUsedPlace used') (block_of d) block (here block (ap (block_at (set ds page d)) (sym same) ∙ e)) moves.live
-        | inr ne ↦ moves.keeps block (sound.live p block (there p block ne e)) (others_apart (block_at ds page) p block refl ne (there p block ne e))
+        | inl same ↦ at_some (IsUsedPlace used') (block_of d) block (here block (ap (block_at (set ds page d)) (sym same) ∙ e)) changes.live
+        | inr ne ↦ changes.keeps block (sound.live p block (there p block ne e)) (others_apart (block_at ds page) p block refl ne (there p block ne e))
       ];
       apart = λ p q block others ne e f. elim (cases_eq p page) [
         | inl same ↦
@@ -102,7 +103,7 @@ module _ (ds : List Desc) (used : List ℕ) (page : ℕ) (sound : AreSound ds us
           | inr q_ne ↦ sound.apart p q block others ne (there p block p_ne e) (there q others q_ne f)
         ]
       ];
-      owned = λ unit busy. elim (moves.owned unit busy) [
+      owned = λ unit busy. elim (changes.owned unit busy) [
         | inl new ↦
             let owner = from_some (IsIn unit) (block_of d) new in
             (page, (owner.0, (block_at-same ds page d within ∙ owner.1.0, owner.1.1)))
@@ -114,6 +115,33 @@ module _ (ds : List Desc) (used : List ℕ) (page : ℕ) (sound : AreSound ds us
             ]
       ];
     }
+
+-- a page at its plan has a block of the plan's order
+order_at : (p : PagePlan) (d : Desc) (order : ℕ) → IsAtPlan p d → order_of p ≡ Some order → (unit : ℕ) × (block_of d ≡ Some (place_at order unit))
+order_at plan.Zero d order at e = absurd (none-some order e)
+order_at (plan.Packed k target exceptions) Zero order at e = absurd at
+order_at (plan.Packed k target exceptions) (Packed block t) order at e = (block.unit, ap (λ (o : ℕ). Some (place_at o block.unit)) (at.0 ∙ same_Some k order e))
+order_at (plan.Packed k target exceptions) (Raw block) order at e = absurd at
+order_at plan.Raw Zero order at e = absurd at
+order_at plan.Raw (Packed block t) order at e = absurd at
+order_at plan.Raw (Raw block) order at e = (block.unit, ap (λ (o : ℕ). Some (place_at o block.unit)) (at ∙ same_Some 3 order e))
+
+-- a page that came to its plan had room for it: its new block lies in no other page's
+pub had_room : (ds : List Desc) (used : List ℕ) (page : ℕ) (p : PagePlan) (ds' : List Desc) (used' : List ℕ) → page < length ds → length used' ≡ length used
+    → ComesToPlan ds used page p ds' used' → AreSound ds' used' → HasRoom ds used page p
+had_room ds used page p ds' used' within frames comes sound order e =
+    let new = order_at p comes.desc order comes.at_plan e in
+    let place = place_at order new.0 in
+    let own : block_at ds' page ≡ Some place = rw comes.descriptors_are (block_at-same ds page comes.desc within ∙ new.1) in
+    let lies = (sound.live page place own).lies in (
+      new.0,
+      record {
+        lies = record { known = lies.known; aligned = lies.aligned; within = rw (← frames) lies.within };
+        free = λ other block ne f.
+            let there : block_at ds' other ≡ Some block = rw comes.descriptors_are (block_at-other ds page other comes.desc ne ∙ f) in
+            sound.apart other page block place ne there own;
+      },
+    )
 
 -- a page that is taken out of the list, as it was kept
 pub record IsTaken (ds : List Desc) (page : ℕ) (held : Desc) : Type 0 where
@@ -140,21 +168,21 @@ module _ (ds : List Desc) (used : List ℕ) (page : ℕ) (held : Desc) (sound : 
   taken_live = live_at ds used page (block_of held) sound block_is
 
   -- it comes to its plan
-  pub taken_settles : (x desc : Desc) (plan : PagePlan) (used' : List ℕ) → IsAtPlan plan desc → Moves used (block_of held) (block_of desc) used'
-      → Settles ds used page plan (set (set ds page x) page desc) used'
-  taken_settles x desc plan used' at_plan moves =
+  pub taken_comes : (x desc : Desc) (plan : PagePlan) (used' : List ℕ) → IsAtPlan plan desc → ChangesBlock used (block_of held) (block_of desc) used'
+      → ComesToPlan ds used page plan (set (set ds page x) page desc) used'
+  taken_comes x desc plan used' at_plan changes =
       record {
         desc = desc;
         at_plan = at_plan;
-        new_block = subst (λ o. IsNewBlock used o (block_of desc)) (sym block_is) moves.new_block;
+        new_block = subst (λ o. IsNewBlock used o (block_of desc)) (sym block_is) changes.new_block;
         descriptors_are = set-set ds page x desc;
-        used_is = moves.used_is ∙ ap (λ o. moved used o (block_of desc)) (sym block_is);
+        used_is = changes.used_is ∙ ap (λ o. moved used o (block_of desc)) (sym block_is);
       }
 
   -- and the blocks stay sound
-  pub taken_sound : (x desc : Desc) (used' : List ℕ) → Moves used (block_of held) (block_of desc) used' → AreSound (set (set ds page x) page desc) used'
-  taken_sound x desc used' moves =
-      rw (set-set ds page x desc) (settled_sound ds used page sound desc used' taken.within (subst (λ o. Moves used o (block_of desc) used') (sym block_is) moves))
+  pub taken_sound : (x desc : Desc) (used' : List ℕ) → ChangesBlock used (block_of held) (block_of desc) used' → AreSound (set (set ds page x) page desc) used'
+  taken_sound x desc used' changes =
+      rw (set-set ds page x desc) (changed_sound ds used page sound desc used' taken.within (subst (λ o. ChangesBlock used o (block_of desc) used') (sym block_is) changes))
 
   -- or it goes back
   pub put_back : (x back : Desc) → back ≡ held → set (set ds page x) page back ≡ ds

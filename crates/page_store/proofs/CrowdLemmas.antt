@@ -18,7 +18,7 @@ use Rattle.page_store.specs.declared.desc.Desc.TheVariants.{Zero, Packed, Raw}
 use Rattle.page_plan.specs.Pages.{page_of, plans_of}
 use Rattle.page_plan.specs.Sizes.{order_of}
 use Rattle.page_store.specs.PageBlocks.{block_of, block_at, IsAtPlan, IsFreeFor, IsIn}
-use Rattle.page_store.specs.Store.{Store, IsSound}
+use Rattle.page_store.specs.Store.{Store, IsSound, Sizing, sizing_of}
 use Rattle.page_store.specs.Crowds.{Tight, share, share_of_order}
 use Rattle.page_store.proofs.BlockLemmas.{block_at-same, block_at-other}
 use Rattle.page_store.proofs.ListLemmas.{get-set_same, get-set_other, sum_by-but_one}
@@ -154,7 +154,7 @@ module _ (s : Store) (sound : IsSound s) where
     -- a crowded store is tight
     pub crowded_tight : (k : ℕ) → k ≤ 3
         → ((i : ℕ) (desc : Desc) → i ≢ page → slice_get s.descriptors i ≡ Some desc → IsAtPlan (plan_of s.codec (page_of s.lines i)) desc)
-        → ((unit : ℕ) → IsFreeFor s.descriptors s.used page (place_at k unit) → ⊥) → Tight s.codec (length s.used) s.lines page k
+        → ((unit : ℕ) → IsFreeFor s.descriptors s.used page (place_at k unit) → ⊥) → Tight (sizing_of s) s.lines page k
     unfolding Tight
     crowded_tight k known at_plan none =
         let met : length s.used * 2 ^ (3 - k) ≤ sum_by (weight k) (map block_of (set s.descriptors page Zero)) =
@@ -178,9 +178,10 @@ share_most k (plan.Packed order target exceptions) known small = order_most k or
 share_most k plan.Raw known small = order_most k 3 known (small 3 refl)
 
 -- where lines are tight, the frames are fewer than the pages
-pub tight_few : (codec : Codec) (frames : ℕ) (lines : List (List ℕ)) (page k : ℕ) → k ≤ 3 → page < length lines / 64 → Tight codec frames lines page k → frames < length lines / 64
+pub tight_few : (sizing : Sizing) (lines : List (List ℕ)) (page k : ℕ) → k ≤ 3 → page < length lines / 64 → Tight sizing lines page k → sizing.frames < length lines / 64
 unfolding Tight
-tight_few codec frames lines page k known lt tight =
+tight_few sizing lines page k known lt tight =
+    let codec = sizing.codec in
     let plans = plans_of codec lines in
     let counted = length-plans_of codec lines in
     let bounded : sum_by (share k) (set plans page plan.Zero) + 2 ^ (3 - k) ≤ 2 ^ (3 - k) * length plans =
@@ -190,7 +191,7 @@ tight_few codec frames lines page k known lt tight =
     let is_plan : IsPlan codec (page_of lines i) p = subst (IsPlan codec (page_of lines i)) is (IsPlan-plan_of codec (page_of lines i)) in
     share_most k p known (λ order f. small_order codec (page_of lines i) p order is_plan f)) in
     let some : 1 ≤ 2 ^ (3 - k) = some_units (3 - k) (omega arith) in
-    elim (cases_lt frames (length plans)) [
+    elim (cases_lt sizing.frames (length plans)) [
       | inl fewer ↦ omega (arith, fewer, counted)
       | inr le ↦ absurd (omega (arith, mul-le-mul_left (2 ^ (3 - k)) le, bounded, tight, some))
     ]

@@ -1,4 +1,4 @@
-pub mod MoveLemmas
+pub mod ChangeLemmas
 pub mod BlockLemmas
 pub mod PageLemmas
 pub mod ListLemmas
@@ -6,3 +6,5 @@ pub mod CountLemmas
 pub mod CrowdLemmas
 pub mod StoreLemmas
 pub mod SizeLemmas
+pub mod ContentLemmas
+pub mod OneLemmas

@@ -22,15 +22,15 @@ use Rattle.page_plan.proofs.PlanLemmas.{IsPlan-plan_of, only_plan}
 use Rattle.page_store.specs.declared.desc.Desc.{Desc}
 use Rattle.page_store.specs.declared.desc.Desc.TheVariants.{Zero}
 use Rattle.page_plan.specs.Pages.{page_of}
-use Rattle.page_store.specs.Pages.{with_page, lines_of}
+use Rattle.page_store.specs.Pages.{with_page, lines_of_page}
 use Rattle.page_plan.specs.Sizes.{order_of}
-use Rattle.page_store.specs.PageBlocks.{block_of, block_at, moved, IsNewBlock, IsAtPlan, AreSound, Settles, LacksRoom}
-use Rattle.page_store.specs.Store.{Store, HasZero, IsSound, AreSizes, IsKept}
+use Rattle.page_store.specs.PageBlocks.{block_of, block_at, moved, IsNewBlock, IsAtPlan, AreSound, ComesToPlan, HasRoom, LacksRoom}
+use Rattle.page_store.specs.Store.{Store, HasZero, IsSound, AreSizes, IsKept, sizing_of}
 use Rattle.page_plan.specs.Sizes.{sizes_of_memory}
 use Rattle.page_store.specs.KeptSizes.{totals_kept}
 use Rattle.page_store.specs.Calls.{Refused, Rewrites, PlacesPage}
-use Rattle.page_store.proofs.MoveLemmas.{kept_block, kept_units}
-use Rattle.page_store.proofs.BlockLemmas.{block_at-get, block_live}
+use Rattle.page_store.proofs.ChangeLemmas.{kept_block, kept_units}
+use Rattle.page_store.proofs.BlockLemmas.{block_at-get, block_live, had_room}
 use Rattle.page_store.proofs.CrowdLemmas.{small_order, crowded_tight, tight_few}
 use Rattle.page_store.proofs.ListLemmas.{get-set_same, get-set_other}
 use Rattle.page_store.proofs.PageLemmas.{length-with_page, page_of-set, page_of-with, page_of-with_other, length-pages_of, pages_of-is}
@@ -51,26 +51,28 @@ module _ (s : Store) (sizes : List (List (Option ℕ))) (kept : IsKept s sizes) 
     here = page_of-with s.lines page others inside whole
 
     -- the relation of the call
-    pub rewrites : (ds : List Desc) (used : List ℕ) (p : PagePlan) (t : Store) → p ≡ plan_of s.codec others → Settles s.descriptors s.used page p ds used
-        → length used ≡ length s.used
+    pub rewrites : (ds : List Desc) (used : List ℕ) (p : PagePlan) (t : Store) → p ≡ plan_of s.codec others → ComesToPlan s.descriptors s.used page p ds used
+        → length used ≡ length s.used → AreSound ds used
         → t ≡ record { codec = s.codec; lines = with_page s.lines page others; descriptors = ds; used = used; counts = s.counts; stops = s.stops }
         → Rewrites s page (with_page s.lines page others) s.counts t
-    rewrites ds used p t planned settles frames is = rw is (record {
-      lines_are = refl;
-      settles = subst (λ q. Settles s.descriptors s.used page q ds used) (planned ∙ ap (plan_of s.codec) (sym here)) settles;
-      counts_are = refl;
-      stops_are = refl;
-      codec_is = refl;
-      frames_stay = frames;
-      pages_stay = ap length settles.descriptors_are ∙ length-set s.descriptors page settles.desc;
-    })
+    rewrites ds used p t planned comes frames sound is =
+        let plan_is : p ≡ plan_of s.codec (page_of (with_page s.lines page others) page) = planned ∙ ap (plan_of s.codec) (sym here) in
+        rw is (record {
+          lines_are = refl;
+          comes = subst (λ q. ComesToPlan s.descriptors s.used page q ds used) plan_is comes;
+          granted = subst (HasRoom s.descriptors s.used page) plan_is (had_room s.descriptors s.used page p ds used within frames comes sound);
+          counts_are = refl;
+          stops_are = refl;
+          sizing_stays = ap (λ n. record { codec = s.codec; frames = n }) frames;
+          pages_stay = ap length comes.descriptors_are ∙ length-set s.descriptors page comes.desc;
+        })
 
     -- the store stays as it is to be kept
     pub kept_after : (new : List (Option ℕ)) (ds : List Desc) (used : List ℕ) (p : PagePlan) → stored_sizes s.codec others ≡ new → p ≡ plan_of s.codec others
-        → Settles s.descriptors s.used page p ds used → AreSound ds used
+        → ComesToPlan s.descriptors s.used page p ds used → AreSound ds used
         → IsKept (record { codec = s.codec; lines = with_page s.lines page others; descriptors = ds; used = used; counts = s.counts; stops = s.stops }) (set sizes page new)
-    kept_after new ds used p sized planned settles sound =
-        let same_pages : length ds ≡ length s.descriptors = ap length settles.descriptors_are ∙ length-set s.descriptors page settles.desc in
+    kept_after new ds used p sized planned comes sound =
+        let same_pages : length ds ≡ length s.descriptors = ap length comes.descriptors_are ∙ length-set s.descriptors page comes.desc in
         let lines_counted = length-with_page s.lines page others inside whole in
         let some : 1 ≤ length s.descriptors = kept.sound.some in
         let most : length s.descriptors ≤ 65536 = kept.sound.most in
@@ -84,16 +86,16 @@ module _ (s : Store) (sizes : List (List (Option ℕ))) (kept : IsKept s sizes) 
             lines_are = lines_after;
             at_plan = λ q desc e. elim (cases_eq q page) [
               | inl same ↦
-                  let is : settles.desc ≡ desc =
-                  same_Some settles.desc desc (sym (get-set_same s.descriptors page settles.desc within) ∙ ap (λ xs. slice_get xs page) (sym settles.descriptors_are)
+                  let is : comes.desc ≡ desc =
+                  same_Some comes.desc desc (sym (get-set_same s.descriptors page comes.desc within) ∙ ap (λ xs. slice_get xs page) (sym comes.descriptors_are)
                   ∙ ap (slice_get ds) (sym same) ∙ e) in
-                  let at : IsAtPlan (plan_of s.codec (page_of (with_page s.lines page others) page)) settles.desc =
-                  subst (λ r. IsAtPlan r settles.desc) (planned ∙ ap (plan_of s.codec) (sym here)) settles.at_plan in
+                  let at : IsAtPlan (plan_of s.codec (page_of (with_page s.lines page others) page)) comes.desc =
+                  subst (λ r. IsAtPlan r comes.desc) (planned ∙ ap (plan_of s.codec) (sym here)) comes.at_plan in
                   subst (λ (r : ℕ). IsAtPlan (plan_of s.codec (page_of (with_page s.lines page others) r)) desc) (sym same)
                   (subst (λ d. IsAtPlan (plan_of s.codec (page_of (with_page s.lines page others) page)) d) is at)
               | inr ne ↦
                   let there : slice_get s.descriptors q ≡ Some desc =
-                  sym (get-set_other s.descriptors page q settles.desc ne) ∙ ap (λ xs. slice_get xs q) (sym settles.descriptors_are) ∙ e in
+                  sym (get-set_other s.descriptors page q comes.desc ne) ∙ ap (λ xs. slice_get xs q) (sym comes.descriptors_are) ∙ e in
                   subst (λ lines. IsAtPlan (plan_of s.codec lines) desc) (sym (page_of-with_other s.lines page others inside whole q ne)) (kept.sound.at_plan q desc there)
             ];
             blocks_are = sound;
@@ -126,7 +128,7 @@ module _ (s : Store) (sizes : List (List (Option ℕ))) (kept : IsKept s sizes) 
           outgrown = lacks.outgrown;
           crowded = record { at_plan = at_plan; none = lacks.none };
           tight = tight;
-          few = omega (arith, tight_few s.codec (length s.used) s.lines page order known in_lines tight, before);
+          few = omega (arith, tight_few (sizing_of s) s.lines page order known in_lines tight, before);
           unchanged = refl;
         })
 
@@ -159,25 +161,26 @@ stays s page lines counts t sound within same is =
     let there : slice_get s.descriptors page ≡ Some desc = slice_get-get_or s.descriptors page Zero within in
     let block_is : block_at s.descriptors page ≡ block_of desc = block_at-get s.descriptors page desc there in
     let live : IfSome (block_at s.descriptors page) (IsUsedPlace s.used) = block_live s.descriptors s.used page sound.blocks_are in
+    let comes : ComesToPlan s.descriptors s.used page (plan_of s.codec (page_of s.lines page)) s.descriptors s.used = record {
+      desc = desc;
+      at_plan = sound.at_plan page desc there;
+      new_block = subst (λ o. IsNewBlock s.used (block_at s.descriptors page) o) block_is (kept_block s.used (block_at s.descriptors page));
+      descriptors_are = sym (set-get_or s.descriptors page Zero);
+      used_is = kept_units s.used (block_at s.descriptors page) live ∙ ap (moved s.used (block_at s.descriptors page)) block_is;
+    } in
     rw (is, same) (record {
       lines_are = refl;
-      settles = record {
-        desc = desc;
-        at_plan = sound.at_plan page desc there;
-        new_block = subst (λ o. IsNewBlock s.used (block_at s.descriptors page) o) block_is (kept_block s.used (block_at s.descriptors page));
-        descriptors_are = sym (set-get_or s.descriptors page Zero);
-        used_is = kept_units s.used (block_at s.descriptors page) live ∙ ap (moved s.used (block_at s.descriptors page)) block_is;
-      };
+      comes = comes;
+      granted = had_room s.descriptors s.used page (plan_of s.codec (page_of s.lines page)) s.descriptors s.used within refl comes sound.blocks_are;
       counts_are = refl;
       stops_are = refl;
-      codec_is = refl;
-      frames_stay = refl;
+      sizing_stays = refl;
       pages_stay = refl;
     })
 
 -- the lines of a page's bytes
-pub lines_of_are : (bytes : List ℕ) → length bytes ≡ 4096 → AreLines (lines_of bytes)
-lines_of_are bytes whole k d lt =
+pub lines_of_page_are : (bytes : List ℕ) → length bytes ≡ 4096 → AreLines (lines_of_page bytes)
+lines_of_page_are bytes whole k d lt =
     let below : k < 64 = omega (arith, length-tabulate (λ line. take 64 (drop (64 * line) bytes)) 64) in
     let rest : 64 ≤ length (drop (64 * k) bytes) = omega (arith, length-drop (64 * k) bytes) in
     ap length (get_or-tabulate d (λ line. take 64 (drop (64 * line) bytes)) 64 k below) ∙ length-take-le 64 (drop (64 * k) bytes) rest
@@ -230,5 +233,5 @@ store_totals s sizes kept =
 -- a page that is placed leaves every other page that is zero
 pub placed_others : (s : Store) (page : ℕ) (bytes : List ℕ) (answer : Answer) (t : Store) (other : ℕ) → PlacesPage s page bytes answer t → other ≢ page → HasZero s other → HasZero t other
 placed_others s page bytes (Ok u) t other places ne zero =
-    ap (λ ds. slice_get ds other) places.settles.descriptors_are ∙ get-set_other s.descriptors page other places.settles.desc ne ∙ zero
+    ap (λ ds. slice_get ds other) places.comes.descriptors_are ∙ get-set_other s.descriptors page other places.comes.desc ne ∙ zero
 placed_others s page bytes (Err refusal) t other refused ne zero = rw refused.unchanged zero

@@ -6,10 +6,10 @@ use Rattle.hier_types.specs.declared.counts.PageCounts.{PageCounts}
 use Rattle.hier_types.specs.declared.faults.NoSpace.{NoSpace}
 use Rattle.page_plan.specs.PagePlan.{plan_of}
 use Rattle.page_plan.specs.Pages.{page_of}
-use Rattle.page_store.specs.Pages.{with_page, lines_of}
+use Rattle.page_store.specs.Pages.{with_page, lines_of_page}
 use Rattle.page_plan.specs.Sizes.{order_of}
-use Rattle.page_store.specs.PageBlocks.{block_at, Outgrows, Settles}
-use Rattle.page_store.specs.Store.{Store}
+use Rattle.page_store.specs.PageBlocks.{block_at, Outgrows, ComesToPlan, HasRoom}
+use Rattle.page_store.specs.Store.{Store, sizing_of}
 use Rattle.page_store.specs.Crowds.{Crowded, Tight}
 
 -- one more line was read
@@ -20,14 +20,15 @@ read_more counts = record counts { reads = raised counts.reads }
 abbrev pub written_more : PageCounts → PageCounts
 written_more counts = record counts { writes = raised counts.writes }
 
--- the store comes to these lines, which are new in one page alone
+-- The store comes to these lines, which are new in one page alone. There was room for that page: so lines are granted exactly
+-- where they are not refused.
 pub record Rewrites (s : Store) (page : ℕ) (lines : List (List ℕ)) (counts : PageCounts) (t : Store) : Type 0 where
   pub lines_are : t.lines ≡ lines
-  pub settles : Settles s.descriptors s.used page (plan_of s.codec (page_of lines page)) t.descriptors t.used
+  pub comes : ComesToPlan s.descriptors s.used page (plan_of s.codec (page_of lines page)) t.descriptors t.used
+  pub granted : HasRoom s.descriptors s.used page (plan_of s.codec (page_of lines page))
   pub counts_are : t.counts ≡ counts
   pub stops_are : t.stops ≡ s.stops
-  pub codec_is : t.codec ≡ s.codec
-  pub frames_stay : length t.used ≡ length s.used
+  pub sizing_stays : sizing_of t ≡ sizing_of s
   pub pages_stay : length t.descriptors ≡ length s.descriptors
 
 -- The store refuses these lines, which would be new in one page alone: they would need a block where the page has none or
@@ -37,7 +38,7 @@ pub record Refused (s : Store) (page : ℕ) (lines : List (List ℕ)) (refusal :
   pub order_is : order_of (plan_of s.codec (page_of lines page)) ≡ Some refusal.order
   pub outgrown : Outgrows (block_at s.descriptors page) refusal.order
   pub crowded : Crowded t refusal
-  pub tight : Tight s.codec (length s.used) s.lines page refusal.order
+  pub tight : Tight (sizing_of s) s.lines page refusal.order
   pub few : length s.used < length s.descriptors
   pub unchanged : t ≡ record s { stops = raised s.stops }
 
@@ -58,4 +59,4 @@ StoreWrite s line bytes (Err refusal) t = Refused s (line / 64) (slice_set s.lin
 
 -- the bytes of a page are placed at once, which counts as no write
 abbrev pub PlacesPage : Store → ℕ → List ℕ → Answer → Store → Type 0
-PlacesPage s page bytes answer t = RewritesPage s page (with_page s.lines page (lines_of bytes)) answer t
+PlacesPage s page bytes answer t = RewritesPage s page (with_page s.lines page (lines_of_page bytes)) answer t

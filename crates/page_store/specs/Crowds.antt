@@ -3,14 +3,13 @@ use Rattle.std.specs.Prelude.{◌≡◌, ◌≢◌, ℕ, ◌-◌, ◌*◌, ◌^�
 use Rattle.std.specs.List.{sum_by}
 use Rattle.buddy_frames.specs.Units.{place_at}
 use Rattle.hier_types.specs.declared.faults.NoSpace.{NoSpace}
-use Rattle.hier_types.specs.declared.settings.Codec.{Codec}
 use Rattle.page_plan.specs.declared.least.PagePlan.{PagePlan}
 use Rattle.page_plan.specs.declared.least.PagePlan.TheVariants.{Zero, Packed, Raw}
 use Rattle.page_plan.specs.PagePlan.{plan_of}
 use Rattle.page_store.specs.declared.desc.Desc.{Desc}
 use Rattle.page_plan.specs.Pages.{page_of, plans_of}
 use Rattle.page_store.specs.PageBlocks.{IsAtPlan, IsFreeFor}
-use Rattle.page_store.specs.Store.{Store}
+use Rattle.page_store.specs.Store.{Store, Sizing}
 
 -- every page but the refused one is at its plan, and no place of the order is free for that one
 pub record Crowded (s : Store) (refusal : NoSpace) : Type 0 where
@@ -28,5 +27,5 @@ share k (Packed order target exceptions) = share_of_order k order
 share k Raw = share_of_order k 3
 
 -- the blocks of the plans of all pages but one could meet every place of order k; it speaks of the contents alone
-unfoldable pub Tight : Codec → ℕ → List (List ℕ) → ℕ → ℕ → Type 0
-Tight codec frames lines page k = frames * 2 ^ (3 - k) ≤ sum_by (share k) (slice_set (plans_of codec lines) page Zero)
+unfoldable pub Tight : Sizing → List (List ℕ) → ℕ → ℕ → Type 0
+Tight sizing lines page k = sizing.frames * 2 ^ (3 - k) ≤ sum_by (share k) (slice_set (plans_of sizing.codec lines) page Zero)

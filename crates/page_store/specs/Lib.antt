@@ -1,7 +1,8 @@
 pub mod Pages
 pub mod PageBlocks
-pub mod Moves
+pub mod BlockChanges
 pub mod Store
 pub mod Crowds
 pub mod Calls
+pub mod Contents
 pub mod KeptSizes

@@ -52,7 +52,7 @@ abbrev pub Outgrows : Option Place → ℕ → Type 0
 Outgrows held order = IfSome held (λ block. block.order < order)
 
 -- one page comes to its plan, and every other stays as it is
-pub record Settles (descriptors : List Desc) (used : List ℕ) (page : ℕ) (plan : PagePlan) (descriptors' : List Desc) (used' : List ℕ) : Type 0 where
+pub record ComesToPlan (descriptors : List Desc) (used : List ℕ) (page : ℕ) (plan : PagePlan) (descriptors' : List Desc) (used' : List ℕ) : Type 0 where
   pub desc : Desc
   pub at_plan : IsAtPlan plan desc
   pub new_block : IsNewBlock used (block_at descriptors page) (block_of desc)
@@ -63,6 +63,10 @@ pub record Settles (descriptors : List Desc) (used : List ℕ) (page : ℕ) (pla
 pub record IsFreeFor (descriptors : List Desc) (used : List ℕ) (page : ℕ) (place : Place) : Type 0 where
   pub lies : IsPlace used place
   pub free : (other : ℕ) (block : Place) → other ≢ page → block_at descriptors other ≡ Some block → AreApart block place
+
+-- where the plan asks for a block, a place of its order is free for the page
+abbrev pub HasRoom : List Desc → List ℕ → ℕ → PagePlan → Type 0
+HasRoom descriptors used page plan = (order : ℕ) → order_of plan ≡ Some order → (unit : ℕ) × IsFreeFor descriptors used page (place_at order unit)
 
 -- no place of the order of the plan is free for the page, and its own block is of a lower order
 pub record LacksRoom (descriptors : List Desc) (used : List ℕ) (page : ℕ) (plan : PagePlan) (order : ℕ) : Type 0 where

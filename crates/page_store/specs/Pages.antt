@@ -7,5 +7,5 @@ abbrev pub with_page : List (List ℕ) → ℕ → List (List ℕ) → List (Lis
 with_page lines page others = take (64 * page) lines ++ others ++ drop (64 * page + 64) lines
 
 -- the bytes of a page as its 64 lines
-abbrev pub lines_of : List ℕ → List (List ℕ)
-lines_of bytes = tabulate (λ line. take 64 (drop (64 * line) bytes)) 64
+abbrev pub lines_of_page : List ℕ → List (List ℕ)
+lines_of_page bytes = tabulate (λ line. take 64 (drop (64 * line) bytes)) 64

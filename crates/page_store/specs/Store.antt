@@ -19,13 +19,21 @@ pub record Store : Type 0 where
   pub counts : PageCounts
   pub stops : ℕ
 
--- a store of so many pages, all of them zero, and so many frames, of which none is in use
-abbrev pub fresh : Codec → ℕ → ℕ → Store
-fresh codec pages frames = record {
-  codec = codec;
+-- what sizes a store: the codec of its plans, and the number of its frames
+pub record Sizing : Type 0 where
+  pub codec : Codec
+  pub frames : ℕ
+
+abbrev pub sizing_of : Store → Sizing
+sizing_of s = record { codec = s.codec; frames = length s.used }
+
+-- a store of this sizing and so many pages, all of them zero; no frame is in use
+abbrev pub fresh : Sizing → ℕ → Store
+fresh sizing pages = record {
+  codec = sizing.codec;
   lines = replicate (64 * pages) zero_line;
   descriptors = replicate pages Zero;
-  used = replicate frames 0;
+  used = replicate sizing.frames 0;
   counts = record { reads = 0; writes = 0; meta_hits = 0; meta_misses = 0; mover_turns = 0; tidy_turns = 0 };
   stops = 0;
 }

@@ -1,7 +1,7 @@
 // The blocks of all pages.
 ghost use Rattle.std.specs.Prelude.{◌≡◌, ◌≤◌, ◌<◌, ◌*◌, ℕ, length, replicate, IfOk, IfErr, OnOk, OnErr};
 ghost use Rattle.buddy_frames.specs.Units.{place_at, IsFreeBlock, IsCount};
-ghost use Rattle.page_store.specs.PageBlocks.{Settles, LacksRoom, AreSound};
+ghost use Rattle.page_store.specs.PageBlocks.{ComesToPlan, LacksRoom, AreSound};
 ghost use Rattle.page_store.specs.declared.desc.Desc.TheVariants as desc;
 
 use crate::desc::Desc;
@@ -61,7 +61,7 @@ impl Blocks {
     /// changed then.
     pub(crate) fn settle(&mut self, page: usize, plan: PagePlan) -> Result<(), u8>
         requires { page < length self.old.descriptors }
-        ensures ok { OnOk result (Settles self.old.descriptors self.old.used page plan self.new.descriptors self.new.used) }
+        ensures ok { OnOk result (ComesToPlan self.old.descriptors self.old.used page plan self.new.descriptors self.new.used) }
         ensures frames { length self.new.used ≡ length self.old.used }
         ensures sound { AreSound self.new.descriptors self.new.used }
         ensures err { IfErr result (λ order. LacksRoom self.old.descriptors self.old.used page plan order) }

@@ -12,4 +12,4 @@ mod pages;
 mod tests;
 mod totals;
 
-pub use pages::Pages;
+pub use pages::{Pages, sure_writes_are_one};

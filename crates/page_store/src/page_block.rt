@@ -3,7 +3,7 @@ ghost use Rattle.std.specs.Prelude.{◌≡◌, ◌≤◌, ◌<◌, Some, None, I
 ghost use Rattle.buddy_frames.specs.Units.{IsUsedPlace};
 ghost use Rattle.page_plan.specs.Sizes.{order_of};
 ghost use Rattle.page_store.specs.PageBlocks.{block_of, IsAtPlan, Outgrows};
-ghost use Rattle.page_store.specs.Moves.{HasNoneBut, Moves, GetsBlock};
+ghost use Rattle.page_store.specs.BlockChanges.{HasNoneBut, ChangesBlock, GetsBlock};
 
 use crate::desc::Desc;
 use buddy_frames::{Block, Frames};
@@ -68,7 +68,7 @@ fn block_for(frames: &mut Frames, held: Desc, order: u8) -> Result<Block, NoPlac
 /// Gives a page's block back.
 fn release(frames: &mut Frames, held: Desc)
     requires { IfSome (block_of held) (IsUsedPlace frames.old) }
-    ensures { Moves frames.old (block_of held) None frames.new }
+    ensures { ChangesBlock frames.old (block_of held) None frames.new }
 {
     match held {
         Desc::Zero => {}
@@ -81,7 +81,7 @@ fn release(frames: &mut Frames, held: Desc)
 pub(crate) fn settle(frames: &mut Frames, held: Desc, plan: PagePlan) -> Result<Desc, NoPlace>
     requires { IfSome (block_of held) (IsUsedPlace frames.old) }
     ensures at_plan { IfOk result (IsAtPlan plan) }
-    ensures moves { IfOk result (λ desc. Moves frames.old (block_of held) (block_of desc) frames.new) }
+    ensures changes { IfOk result (λ desc. ChangesBlock frames.old (block_of held) (block_of desc) frames.new) }
     ensures order { IfErr result (λ no_place. order_of plan ≡ Some no_place.order) }
     ensures none { IfErr result (λ no_place. HasNoneBut frames.old (block_of held) no_place.order) }
     ensures outgrown { IfErr result (λ no_place. Outgrows (block_of held) no_place.order) }

@@ -1,7 +1,7 @@
 // The lines of one page among those of all.
 ghost use Rattle.std.specs.Prelude.{◌≡◌, ◌<◌, ◌≤◌, ◌+◌, ◌*◌, ◌/◌, length, slice_set};
 ghost use Rattle.page_plan.specs.Pages.{page_of};
-ghost use Rattle.page_store.specs.Pages.{with_page, lines_of};
+ghost use Rattle.page_store.specs.Pages.{with_page, lines_of_page};
 
 use hier_types::Line;
 
@@ -29,7 +29,7 @@ pub(crate) fn put_page(lines: &mut Vec<Line>, page: usize, others: &[Line; 64])
 
 /// The bytes of a page as its lines.
 pub(crate) fn lines_in(bytes: &[u8; 4096]) -> [Line; 64]
-    ensures { result ≡ lines_of bytes.now }
+    ensures { result ≡ lines_of_page bytes.now }
 {
     let mut page = [[0; 64]; 64];
     for index in 0..64usize {

@@ -2,6 +2,7 @@
 ghost use Rattle.std.specs.Prelude.{◌≡◌, ◌≤◌, ◌<◌, ◌*◌, ◌/◌, ℕ, length, replicate, IfOk, slice_set};
 ghost use Rattle.buddy_frames.specs.Units.{place_at, IsFreeBlock, IsCount};
 ghost use Rattle.hier_types.specs.Lines.{AreLines, zero_line};
+ghost use Rattle.page_store.specs.Contents.{SureWritesAreOne};
 
 use crate::blocks::Blocks;
 use crate::page_lines::{lines_in, page_with, put_page};
@@ -67,7 +68,7 @@ impl Pages {
         requires most_pages { geometry.pages ≤ 65536 }
         requires some_frames { 1 ≤ frames }
         requires most_frames { frames ≤ 65536 }
-        ensures { IfOk result (λ made. made ≡ fresh codec geometry.pages frames) }
+        ensures { IfOk result (λ made. made ≡ fresh (record { codec = codec; frames = frames }) geometry.pages) }
     {
         let pages = geometry.pages;
         let zero_line: Line = [0; 64];
@@ -202,3 +203,8 @@ impl Layer for Pages {
         *into = self.lines[line.0 as usize];
     }
 }
+
+/// A write that can't be cut has one answer and leaves one state, by the contents alone.
+pub fn sure_writes_are_one()
+    ensures { SureWritesAreOne }
+{}

@@ -36,7 +36,7 @@ fn store(alloc: Global, pages: u32, frames: u32) -> Result<Pages, NoMemory>
     requires most_pages { pages ≤ 64 }
     requires some_frames { 1 ≤ frames }
     requires most_frames { frames ≤ 64 }
-    ensures { IfOk result (λ made. made ≡ fresh Bdi pages frames) }
+    ensures { IfOk result (λ made. made ≡ fresh (record { codec = Bdi; frames = frames }) pages) }
 {
     let geometry = Geometry { base: 16, pages };
     Pages::new(alloc, geometry, frames, Codec::Bdi)

@@ -1,14 +1,15 @@
--- The most recent line of a set is read and changed.
+-- The copy of a line, and above all the most recent one of a set, is read and changed.
 use Rattle.std.proofs.Common.{◌≡◌, ◌≢◌, ◌<◌, ◌%◌, ℕ, true, false, List, [], ◌∷◌, Some, length, length-set, set, refl, sym, ap, ◌∙◌, subst}
 use Rattle.std.specs.List.{slice_get}
-use Rattle.std.specs.Option.{option_map}
+use Rattle.std.specs.Option.{option_map, IfSome}
+use Rattle.std.proofs.lemmas.Bool.{eq-eqb, ne_eqb}
 use Rattle.recency.proofs.ListLemmas.{slice_get-set, slice_get-set_other, same_lists}
 use Rattle.recency.specs.declared.entry.Entry.{Entry}
-use Rattle.recency.specs.Kept.{Kept, with_lines, entry_of, dirty_entry, overwritten}
-use Rattle.recency.specs.Levels.{set_of, with_set, bytes_or, overlay, IsGood, IsSound, IsFirst}
+use Rattle.recency.specs.Kept.{Kept, with_lines, entry_of, dirty_entry, overwritten, poked}
+use Rattle.recency.specs.Levels.{set_of, with_set, kept_of, bytes_or, overlay, IsGood, IsSound, IsFirst}
 use Rattle.recency.proofs.UseLemmas.{by_eq}
 use Rattle.recency.proofs.EntryLemmas.{at_front, past_front}
-use Rattle.recency.proofs.LevelLemmas.{shown, shown_kept, set_at-same, set_at-other, slice_get-overlay, length-overlay, sound_step, in_range}
+use Rattle.recency.proofs.LevelLemmas.{shown_kept, set_at-same, set_at-other, slice_get-overlay, length-overlay, sound_step, in_range}
 
 pub first_kept : (es : List Entry) (e : Entry) (line : ℕ) → slice_get es 0 ≡ Some e → e.line ≡ line → entry_of es line ≡ Some e
 first_kept [] e line is at = absurd (let h = is in cc)
@@ -19,62 +20,87 @@ pub first_shown : (lines : List (List ℕ)) (sets : List Kept) (line : ℕ) (e :
 first_shown lines sets line e inside is at =
     slice_get-overlay lines sets line ∙ shown_kept lines (set_of sets line).lines e line inside (first_kept (set_of sets line).lines e line is at)
 
-good_first : (lines : List (List ℕ)) (n i : ℕ) (es : List Entry) (bytes : List ℕ) → IsGood lines n i es → length bytes ≡ 64 → IsGood lines n i (overwritten es bytes)
-good_first lines n i [] bytes good full = tt
-good_first lines n i (f ∷ es) bytes good full =
-    (record { inside = good.0.inside; home = good.0.home; full = full; clean = λ c. absurd (let h : true ≡ false = c in cc) }, good.1, good.2)
+-- what was changed by the number of the most recent line was changed by this number
+pub by_first : (sets new : List Kept) (line : ℕ) (change : ℕ → List Entry) → IsFirst sets line → IfSome (slice_get (set_of sets line).lines 0) (λ e. new ≡ with_set sets line (change e.line)) → new ≡ with_set sets line (change line)
+by_first sets new line change first is = (rw first.here at is) ∙ ap (λ l. with_set sets line (change l)) first.line_is
 
-shown_first : (lines : List (List ℕ)) (es : List Entry) (e : Entry) (line : ℕ) (bytes : List ℕ) (x : ℕ) → slice_get es 0 ≡ Some e → e.line ≡ line → line ≢ x → shown lines (overwritten es bytes) x ≡ shown lines es x
-shown_first lines [] e line bytes x is at other = refl
-shown_first lines (f ∷ es) e line bytes x is at other =
+-- a copy with another byte
+pub poked_over : (es : List Entry) (line offset byte : ℕ) (e : Entry) → entry_of es line ≡ Some e → poked es line offset byte ≡ overwritten es line (set e.bytes offset byte)
+poked_over [] line offset byte e is = refl
+poked_over (f ∷ es) line offset byte e is =
+    by_eq f.line line
+    (λ y.
+    let k : Some f ≡ Some e = sym (at_front f es line y) ∙ is in
     let same : f ≡ e = cc in
-    let here : f.line ≡ line = ap (λ z. z.line) same ∙ at in
-    let ne : f.line ≢ x = λ y. other (sym here ∙ y) in
-    ap (λ k. option_map (bytes_or k) (slice_get lines x)) (past_front (dirty_entry f.line bytes) es x ne ∙ sym (past_front f es x ne))
+    rw (eq-eqb f.line line y) (ap (λ (z : Entry). dirty_entry line (set z.bytes offset byte) ∷ es) same))
+    (λ apart. rw (ne_eqb f.line line apart) (ap (λ l. f ∷ l) (poked_over es line offset byte e (sym (past_front f es line apart) ∙ is))))
 
-first_over : (es : List Entry) (e : Entry) (line : ℕ) (bytes : List ℕ) → slice_get es 0 ≡ Some e → e.line ≡ line → entry_of (overwritten es bytes) line ≡ Some (dirty_entry line bytes)
-first_over [] e line bytes is at = absurd (let k = is in cc)
-first_over (f ∷ es) e line bytes is at =
-    let same : f ≡ e = cc in
-    let here : f.line ≡ line = ap (λ z. z.line) same ∙ at in
-    at_front (dirty_entry f.line bytes) es line here ∙ ap (λ l. Some (dirty_entry l bytes)) here
+over_here : (es : List Entry) (line : ℕ) (bytes : List ℕ) (e : Entry) → entry_of es line ≡ Some e → entry_of (overwritten es line bytes) line ≡ Some (dirty_entry line bytes)
+over_here [] line bytes e is = absurd (let k = is in cc)
+over_here (f ∷ es) line bytes e is =
+    by_eq f.line line
+    (λ y. rw (eq-eqb f.line line y) (at_front (dirty_entry line bytes) es line refl))
+    (λ apart. rw (ne_eqb f.line line apart) (past_front f (overwritten es line bytes) line apart ∙ over_here es line bytes e (sym (past_front f es line apart) ∙ is)))
 
--- the most recent line of a set is overwritten
+over_other : (es : List Entry) (line x : ℕ) (bytes : List ℕ) → line ≢ x → entry_of (overwritten es line bytes) x ≡ entry_of es x
+over_other [] line x bytes other = refl
+over_other (f ∷ es) line x bytes other =
+    by_eq f.line line
+    (λ y. rw (eq-eqb f.line line y) (past_front (dirty_entry line bytes) es x other ∙ sym (past_front f es x (λ k. other (sym y ∙ k)))))
+    (λ apart. rw (ne_eqb f.line line apart) (by_eq f.line x
+    (λ y. at_front f (overwritten es line bytes) x y ∙ sym (at_front f es x y))
+    (λ away. past_front f (overwritten es line bytes) x away ∙ over_other es line x bytes other ∙ sym (past_front f es x away))))
+
+good_over : (lines : List (List ℕ)) (n i : ℕ) (es : List Entry) (line : ℕ) (bytes : List ℕ) → IsGood lines n i es → length bytes ≡ 64 → IsGood lines n i (overwritten es line bytes)
+good_over lines n i [] line bytes good full = tt
+good_over lines n i (f ∷ es) line bytes good full =
+    by_eq f.line line
+    (λ y. rw (eq-eqb f.line line y) (
+      record { inside = rw (← y) good.0.inside; home = rw (← y) good.0.home; full = full; clean = λ c. absurd (let h : true ≡ false = c in cc) },
+      rw (← y) good.1,
+      good.2,
+    ))
+    (λ apart. rw (ne_eqb f.line line apart) (good.0, over_other es line f.line bytes (λ y. apart (sym y)) ∙ good.1, good_over lines n i es line bytes good.2 full))
+
+-- the copy of a line is overwritten
 module _ (lines : List (List ℕ)) (sets : List Kept) (line : ℕ) (bytes : List ℕ) (sound : IsSound lines sets) where
   abbrev changed : Kept
-  changed = with_lines (set_of sets line) (overwritten (set_of sets line).lines bytes)
+  changed = with_lines (set_of sets line) (overwritten (set_of sets line).lines line bytes)
 
-  pub over_sound : length bytes ≡ 64 → IsSound lines (with_set sets line (overwritten (set_of sets line).lines bytes))
+  abbrev after : List Kept
+  after = with_set sets line (overwritten (set_of sets line).lines line bytes)
+
+  pub over_sound : length bytes ≡ 64 → IsSound lines (with_set sets line (overwritten (set_of sets line).lines line bytes))
   over_sound full =
       sound_step lines lines sets (line % length sets) changed sound sound.whole (in_range lines sets line sound) (sound.ways _ (in_range lines sets line sound))
       (λ j apart. sound.good j)
-      (good_first lines (length sets) (line % length sets) (set_of sets line).lines bytes (sound.good (line % length sets)) full)
+      (good_over lines (length sets) (line % length sets) (set_of sets line).lines line bytes (sound.good (line % length sets)) full)
 
-  pub over_written : IsFirst sets line → line < length lines → overlay lines (with_set sets line (overwritten (set_of sets line).lines bytes)) ≡ set (overlay lines sets) line bytes
-  over_written first inside =
+  pub over_written : (e : Entry) → kept_of sets line ≡ Some e → line < length lines → overlay lines (with_set sets line (overwritten (set_of sets line).lines line bytes)) ≡ set (overlay lines sets) line bytes
+  over_written e kept inside =
       let range = in_range lines sets line sound in
       same_lists _ _ (λ x. by_eq line x
-      (λ y. subst (λ z. slice_get (overlay lines (with_set sets line (overwritten (set_of sets line).lines bytes))) z ≡ slice_get (set (overlay lines sets) line bytes) z) y
-      (slice_get-overlay lines (with_set sets line (overwritten (set_of sets line).lines bytes)) line
-      ∙ shown_kept lines (set_of (with_set sets line (overwritten (set_of sets line).lines bytes)) line).lines (dirty_entry line bytes) line inside
-      (rw (length-set, set_at-same sets (line % length sets) changed range) (first_over (set_of sets line).lines first.first line bytes first.here first.line_is))
+      (λ y. subst (λ z. slice_get (overlay lines after) z ≡ slice_get (set (overlay lines sets) line bytes) z) y
+      (slice_get-overlay lines after line
+      ∙ shown_kept lines (set_of after line).lines (dirty_entry line bytes) line inside
+      (rw (length-set, set_at-same sets (line % length sets) changed range) (over_here (set_of sets line).lines line bytes e kept))
       ∙ sym (slice_get-set (overlay lines sets) line bytes (rw length-overlay inside))))
       (λ apart.
-      slice_get-overlay lines (with_set sets line (overwritten (set_of sets line).lines bytes)) x
+      slice_get-overlay lines after x
       ∙ rw length-set (by_eq (x % length sets) (line % length sets)
-      (λ y. rw (y, set_at-same sets (line % length sets) changed range) (shown_first lines (set_of sets line).lines first.first line bytes x first.here first.line_is apart))
+      (λ y. rw (y, set_at-same sets (line % length sets) changed range) (ap (λ k. option_map (bytes_or k) (slice_get lines x)) (over_other (set_of sets line).lines line x bytes apart)))
       (λ away. rw (set_at-other sets (line % length sets) (x % length sets) changed (λ y. away (sym y))) refl))
       ∙ sym (slice_get-overlay lines sets x)
       ∙ sym (slice_get-set_other (overlay lines sets) line x bytes apart)))
 
-  -- it stays the most recent
-  pub over_first : IsFirst sets line → IsFirst (with_set sets line (overwritten (set_of sets line).lines bytes)) line
+  -- where it was the most recent of its set, it stays so
+  pub over_first : IsFirst sets line → IsFirst (with_set sets line (overwritten (set_of sets line).lines line bytes)) line
   over_first first = record {
-    first = dirty_entry first.first.line bytes;
-    here = rw (length-set, set_at-same sets (line % length sets) changed (in_range lines sets line sound)) (front (set_of sets line).lines first.first first.here);
-    line_is = first.line_is;
+    first = dirty_entry line bytes;
+    here = rw (length-set, set_at-same sets (line % length sets) changed (in_range lines sets line sound)) (front (set_of sets line).lines first.first first.here first.line_is);
+    line_is = refl;
   }
     where
-      front : (es : List Entry) (e : Entry) → slice_get es 0 ≡ Some e → slice_get (overwritten es bytes) 0 ≡ Some (dirty_entry e.line bytes)
-      front [] e is = absurd (let k = is in cc)
-      front (f ∷ es) e is = let same : f ≡ e = cc in ap (λ z. Some (dirty_entry z.line bytes)) same
+      front : (es : List Entry) (e : Entry) → slice_get es 0 ≡ Some e → e.line ≡ line → slice_get (overwritten es line bytes) 0 ≡ Some (dirty_entry line bytes)
+      front [] e is at = absurd (let k = is in cc)
+      front (f ∷ es) e is at = let same : f ≡ e = cc in rw (eq-eqb f.line line (ap (λ z. z.line) same ∙ at)) refl

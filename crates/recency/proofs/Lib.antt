@@ -4,6 +4,7 @@ pub mod FirstLemmas
 pub mod FlushLemmas
 pub mod LevelLemmas
 pub mod ListLemmas
+pub mod OneLemmas
 pub mod RingLemmas
 pub mod SlotLemmas
 pub mod StoreLemmas

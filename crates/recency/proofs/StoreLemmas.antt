@@ -82,15 +82,15 @@ clean_last_slot tags bytes (y ∷ z ∷ ss) s d is lt =
     ∙ ap (λ l. entry_at tags bytes y ∷ l) (clean_last_slot tags bytes (z ∷ ss) s d.1 is lt)
 
 first_changed : (tags : List Tag) (bytes : List (List ℕ)) (ss : List ℕ) (s : ℕ) (b : List ℕ) → IsDistinct ss → slice_get ss 0 ≡ Some s → s < length tags → s < length bytes
-    → entries_of (set tags s (record { line = (tag_at tags s).line; dirty = true })) (set bytes s b) ss ≡ overwritten (entries_of tags bytes ss) b
+    → entries_of (set tags s (record { line = (tag_at tags s).line; dirty = true })) (set bytes s b) ss ≡ overwritten (entries_of tags bytes ss) (tag_at tags s).line b
 first_changed tags bytes [] s b d is lt lt2 = refl
 first_changed tags bytes (y ∷ ss) s b d is lt lt2 =
     let e : y ≡ s = cc in
     let out : has ss s ≡ false = ap (has ss) (sym e) ∙ d.0 in
     let t : Tag = record { line = (tag_at tags s).line; dirty = true } in
-    ap (λ z. z ∷ entries_of (set tags s t) (set bytes s b) ss)
-    (ap (entry_at (set tags s t) (set bytes s b)) e ∙ entry_both tags bytes s t b lt lt2 ∙ sym (ap (λ x. dirty_entry (tag_at tags x).line b) e))
-    ∙ ap (λ l. dirty_entry (tag_at tags y).line b ∷ l) (entries_same tags (set tags s t) bytes (set bytes s b) ss (λ x k. entry_both_other tags bytes s x t b (has_apart ss x s k out)))
+    rw (eq-eqb (tag_at tags y).line (tag_at tags s).line (ap (λ x. (tag_at tags x).line) e))
+    (ap (λ z. z ∷ entries_of (set tags s t) (set bytes s b) ss) (ap (entry_at (set tags s t) (set bytes s b)) e ∙ entry_both tags bytes s t b lt lt2)
+    ∙ ap (λ l. dirty_entry (tag_at tags s).line b ∷ l) (entries_same tags (set tags s t) bytes (set bytes s b) ss (λ x k. entry_both_other tags bytes s x t b (has_apart ss x s k out))))
 
 -- the slots in use after one was used
 has_used : (ss : List ℕ) (s x : ℕ) → has (s ∷ removed ss s) x ≡ true → (x ≢ s) → has ss x ≡ true
@@ -150,18 +150,21 @@ module _ {ways : ℕ} {order : Used} {tags : List Tag} {bytes : List (List ℕ)}
   cleaned_last s is = clean_last_slot tags bytes order.slots s stored.tagged.distinct is (tag_within s (last_has order.slots s is))
 
   pub changed_first : (s : ℕ) (b : List ℕ) → slice_get order.slots 0 ≡ Some s
-      → entries_of (set tags s (record { line = (tag_at tags s).line; dirty = true })) (set bytes s b) order.slots ≡ overwritten (entries_of tags bytes order.slots) b
+      → entries_of (set tags s (record { line = (tag_at tags s).line; dirty = true })) (set bytes s b) order.slots ≡ overwritten (entries_of tags bytes order.slots) (tag_at tags s).line b
   changed_first s b is =
       let h = first_has order.slots s is in
       first_changed tags bytes order.slots s b stored.tagged.distinct is (tag_within s h) (bytes_within s h)
 
   pub poked_first : (s offset byte : ℕ) → slice_get order.slots 0 ≡ Some s
-      → entries_of (set tags s (record { line = (tag_at tags s).line; dirty = true })) (set bytes s (set (get_or bytes s []) offset byte)) order.slots ≡ poked (entries_of tags bytes order.slots) offset byte
+      → entries_of (set tags s (record { line = (tag_at tags s).line; dirty = true })) (set bytes s (set (get_or bytes s []) offset byte)) order.slots ≡ poked (entries_of tags bytes order.slots) (tag_at tags s).line offset byte
   poked_first s offset byte is = changed_first s (set (get_or bytes s []) offset byte) is ∙ over order.slots is
     where
-      over : (ss : List ℕ) → slice_get ss 0 ≡ Some s → overwritten (entries_of tags bytes ss) (set (get_or bytes s []) offset byte) ≡ poked (entries_of tags bytes ss) offset byte
+      over : (ss : List ℕ) → slice_get ss 0 ≡ Some s → overwritten (entries_of tags bytes ss) (tag_at tags s).line (set (get_or bytes s []) offset byte) ≡ poked (entries_of tags bytes ss) (tag_at tags s).line offset byte
       over [] is = refl
-      over (y ∷ ss) is = let e : y ≡ s = cc in ap (λ x. dirty_entry (tag_at tags y).line (set (get_or bytes x []) offset byte) ∷ entries_of tags bytes ss) (sym e)
+      over (y ∷ ss) is =
+          let e : y ≡ s = cc in
+          rw (eq-eqb (tag_at tags y).line (tag_at tags s).line (ap (λ x. (tag_at tags x).line) e))
+          (ap (λ x. dirty_entry (tag_at tags s).line (set (get_or bytes x []) offset byte) ∷ entries_of tags bytes ss) (sym e))
 
   full_test : ways ≤ length order.slots → nat_lt (length (entries_of tags bytes order.slots)) ways ≡ false
   full_test full = rw length-map (le-ltb (length order.slots) ways full)

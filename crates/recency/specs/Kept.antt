@@ -65,15 +65,15 @@ clean_last [] = []
 clean_last (e ∷ []) = cleaned e ∷ []
 clean_last (e ∷ f ∷ es) = e ∷ clean_last (f ∷ es)
 
--- the most recent entry with other bytes
-abbrev pub overwritten : List Entry → List ℕ → List Entry
-overwritten [] bytes = []
-overwritten (e ∷ es) bytes = dirty_entry e.line bytes ∷ es
+-- the copy of a line has other bytes, and is dirty from then on; where there is none, nothing changes
+abbrev pub overwritten : List Entry → ℕ → List ℕ → List Entry
+overwritten [] line bytes = []
+overwritten (e ∷ es) line bytes = if e.line == line then dirty_entry line bytes ∷ es else e ∷ overwritten es line bytes
 
--- the most recent entry with another byte
-abbrev pub poked : List Entry → ℕ → ℕ → List Entry
-poked [] offset byte = []
-poked (e ∷ es) offset byte = dirty_entry e.line (slice_set e.bytes offset byte) ∷ es
+-- the copy of a line has another byte, and is dirty from then on; where there is none, nothing changes
+abbrev pub poked : List Entry → ℕ → ℕ → ℕ → List Entry
+poked [] line offset byte = []
+poked (e ∷ es) line offset byte = if e.line == line then dirty_entry line (slice_set e.bytes offset byte) ∷ es else e ∷ poked es line offset byte
 
 -- the least recent dirty entry, or else the one given
 abbrev pub last_dirty_from : Option Entry → List Entry → Option Entry

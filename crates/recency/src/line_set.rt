@@ -160,7 +160,7 @@ impl LineSet {
     pub(crate) fn set_first_byte(&mut self, offset: u32, byte: u8)
         requires some { 0 < length self.old.lines }
         requires inside { offset < 64 }
-        ensures { self.new ≡ with_lines self.old (poked self.old.lines offset byte) }
+        ensures { IfSome (slice_get self.old.lines 0) (λ e. self.new ≡ with_lines self.old (poked self.old.lines e.line offset byte)) }
     {
         let slot = first_slot(&self.order);
         mark(&mut self.tags, slot, true);
@@ -179,7 +179,7 @@ impl LineSet {
     /// Changes the bytes of the most recent line, which is dirty from now on.
     pub(crate) fn set_first(&mut self, from: &Line)
         requires { 0 < length self.old.lines }
-        ensures { self.new ≡ with_lines self.old (overwritten self.old.lines from.now) }
+        ensures { IfSome (slice_get self.old.lines 0) (λ e. self.new ≡ with_lines self.old (overwritten self.old.lines e.line from.now)) }
     {
         let slot = first_slot(&self.order);
         mark(&mut self.tags, slot, true);

@@ -149,7 +149,7 @@ impl LineSets {
     pub fn set_first_byte(&mut self, line: u32, offset: u32, byte: u8)
         requires some { 0 < length (set_of self.old line).lines }
         requires inside { offset < 64 }
-        ensures { self.new ≡ with_set self.old line (poked (set_of self.old line).lines offset byte) }
+        ensures { IfSome (slice_get (set_of self.old line).lines 0) (λ e. self.new ≡ with_set self.old line (poked (set_of self.old line).lines e.line offset byte)) }
     {
         let index = index_of(&self.sets, self.mask, line);
         self.sets[index as usize].set_first_byte(offset, byte);
@@ -167,7 +167,7 @@ impl LineSets {
     /// Changes the bytes of the most recent line of the set of `line`, which is dirty from now on.
     pub fn set_first(&mut self, line: u32, from: &Line)
         requires { 0 < length (set_of self.old line).lines }
-        ensures { self.new ≡ with_set self.old line (overwritten (set_of self.old line).lines from.now) }
+        ensures { IfSome (slice_get (set_of self.old line).lines 0) (λ e. self.new ≡ with_set self.old line (overwritten (set_of self.old line).lines e.line from.now)) }
     {
         let index = index_of(&self.sets, self.mask, line);
         self.sets[index as usize].set_first(from);

@@ -1,4 +1,4 @@
-use Rattle.page_store.proofs.MoveLemmas.{taken_gets, none_taken}
+use Rattle.page_store.proofs.ChangeLemmas.{taken_gets, none_taken}
 use Rattle.page_store.proofs.page_block.block_for.Goals as goal
 
 pub returns-in-Some-clause-gets : goal.returns-in-Some-clause-gets

@@ -1,6 +1,6 @@
 use Rattle.std.proofs.Common.{arith}
 use Rattle.std.proofs.lemmas.Result.{on_err_weaker}
-use Rattle.page_store.proofs.MoveLemmas.{trimmed_gets, grown_or_same, none_grown}
+use Rattle.page_store.proofs.ChangeLemmas.{trimmed_gets, grown_or_same, none_grown}
 use Rattle.page_store.proofs.page_block.reorder.Goals as goal
 
 pub returns-then-order-clause-gets : goal.returns-then-order-clause-gets

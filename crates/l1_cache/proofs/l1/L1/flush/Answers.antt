@@ -8,8 +8,13 @@ use Rattle.l1_cache.proofs.l1.L1.flush.Goals as goal
 pub returns-in-Err-clause-did : goal.returns-in-Err-clause-did
 returns-in-Err-clause-did g c =
     let next : next_dirty c.loop-entry.self.sets ≡ Some c.in-Some.entry = rw (← c.self.view_is) (sym c.in-Some.ensures) in
-    c.loop-entry.invariant.on _ _ _ (Makes-write c.in-Some.entry.line c.in-Some.entry.bytes (Err c.in-Err.refusal) c.in-Err.ensures.did
-    (c.in-Some.entry, next, refl, refl, refl, refl, c.in-Err.ensures.err))
+    record {
+      held = c.in-Err.ensures.held ∙ c.loop-entry.invariant.held;
+      counts = c.in-Err.ensures.counts ∙ c.loop-entry.invariant.counts;
+      span = c.in-Err.ensures.span ∙ c.loop-entry.invariant.span;
+      made = c.loop-entry.invariant.on _ _ _ (Makes-write c.in-Some.entry.line c.in-Some.entry.bytes (Err c.in-Err.refusal) c.in-Err.ensures.did
+          (c.in-Some.entry, next, refl, refl, refl, refl, c.in-Err.ensures.err));
+    }
 
 pub write_back-requires : goal.write_back-requires
 write_back-requires g c = rw (← c.self.view_is) (next_kept (g.B.Layer.content c.self.inside.below) c.self.inside.sets c.self.invariant.sound c.in-Some.entry (sym c.in-Some.ensures)).1
@@ -38,7 +43,12 @@ loop-entry-preserved g c =
 pub returns-clause-did : goal.returns-clause-did
 returns-clause-did g c =
     let next : next_dirty c.loop-entry.self.sets ≡ None = rw (← c.self.view_is) (sym c.next_dirty.ensures ∙ c.in_default.is) in
-    c.loop-entry.invariant.on _ _ _ (Makes-none (next, refl, refl))
+    record {
+      held = c.loop-entry.invariant.held;
+      counts = c.loop-entry.invariant.counts;
+      span = c.loop-entry.invariant.span;
+      made = c.loop-entry.invariant.on _ _ _ (Makes-none (next, refl, refl));
+    }
 
 pub returns-clause-settled : goal.returns-clause-settled
 returns-clause-settled g c =

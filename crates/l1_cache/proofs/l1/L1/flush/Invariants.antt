@@ -3,12 +3,12 @@ use Rattle.hier_types.specs.Calls.{Answer, Makes}
 use Rattle.recency.specs.Kept.{Kept}
 use Rattle.recency.specs.Steps.{Flushes}
 use Rattle.recency.proofs.FlushLemmas.{AreClean, dirty_sum}
-use Rattle.l1_cache.specs.FirstLevel.{lines_of}
+use Rattle.l1_cache.specs.FirstLevel.{lines_of_first}
 use Rattle.l1_cache.proofs.l1.L1.flush.Given as goal
 
 abbrev pub invariant-loop-entry : goal.invariant-loop-entry
 invariant-loop-entry g l = record {
-  content : lines_of g.B.Layer.content l.self ≡ lines_of g.B.Layer.content l.fn.self;
+  content : lines_of_first g.B.Layer.content l.self ≡ lines_of_first g.B.Layer.content l.fn.self;
   held : l.self.held ≡ l.fn.self.held;
   counts : l.self.counts ≡ l.fn.self.counts;
   span : l.self.span ≡ l.fn.self.span;

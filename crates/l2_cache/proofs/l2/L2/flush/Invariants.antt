@@ -3,12 +3,12 @@ use Rattle.hier_types.specs.Calls.{Answer, Makes}
 use Rattle.recency.specs.Kept.{Kept}
 use Rattle.recency.specs.Steps.{Flushes}
 use Rattle.recency.proofs.FlushLemmas.{AreClean, dirty_sum}
-use Rattle.l2_cache.specs.SecondLevel.{lines_of}
+use Rattle.l2_cache.specs.SecondLevel.{lines_of_second}
 use Rattle.l2_cache.proofs.l2.L2.flush.Given as goal
 
 abbrev pub invariant-loop-entry : goal.invariant-loop-entry
 invariant-loop-entry g l = record {
-  content : lines_of g.B.Layer.content l.self ≡ lines_of g.B.Layer.content l.fn.self;
+  content : lines_of_second g.B.Layer.content l.self ≡ lines_of_second g.B.Layer.content l.fn.self;
   codec : l.self.codec ≡ l.fn.self.codec;
   cursor : l.self.cursor ≡ l.fn.self.cursor;
   counts : l.self.counts ≡ l.fn.self.counts;

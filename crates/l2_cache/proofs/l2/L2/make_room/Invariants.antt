@@ -4,13 +4,13 @@ use Rattle.line_codec.specs.Slots.{size_under}
 use Rattle.recency.specs.Kept.{Kept}
 use Rattle.recency.specs.Levels.{kept_of, set_of}
 use Rattle.recency.specs.Steps.{Changes}
-use Rattle.l2_cache.specs.SecondLevel.{lines_of}
+use Rattle.l2_cache.specs.SecondLevel.{lines_of_second}
 use Rattle.l2_cache.specs.Turns.{MakesRoom}
 use Rattle.l2_cache.proofs.l2.L2.make_room.Given as goal
 
 abbrev pub invariant-loop-entry : goal.invariant-loop-entry
 invariant-loop-entry g l = record {
-  content : lines_of g.B.Layer.content l.self ≡ lines_of g.B.Layer.content l.fn.self;
+  content : lines_of_second g.B.Layer.content l.self ≡ lines_of_second g.B.Layer.content l.fn.self;
   codec : l.self.codec ≡ l.fn.self.codec;
   cursor : l.self.cursor ≡ l.fn.self.cursor;
   counts : l.self.counts ≡ l.fn.self.counts;

@@ -1,6 +1,6 @@
 use Rattle.std.proofs.Common.{◌≡◌, ◌<◌, length, refl, set}
 use Rattle.page_store.specs.declared.desc.Desc.{Desc}
-use Rattle.page_store.proofs.BlockLemmas.{IsTaken, taken_at, taken_live, taken_settles, taken_sound, put_back, taken_lacks}
+use Rattle.page_store.proofs.BlockLemmas.{IsTaken, taken_at, taken_live, taken_comes, taken_sound, put_back, taken_lacks}
 use Rattle.page_store.proofs.blocks.Blocks.settle.Goals as goal
 use Rattle.page_store.proofs.blocks.Blocks.settle.Goals.{After-replace-held}
 
@@ -16,18 +16,18 @@ settle-requires c =
 pub invariant_of-self : goal.invariant_of-self
 invariant_of-self c =
     taken_sound c.self.inside.descriptors.items c.self.inside.frames c.args.page c.replace-held.result c.self.invariant (taken (goal.at.invariant_of-self c).After-replace-held)
-    c.replace-held.new.dest c.in-Ok.desc c.settle.new.frames c.in-Ok.ensures.moves
+    c.replace-held.new.dest c.in-Ok.desc c.settle.new.frames c.in-Ok.ensures.changes
 
 pub returns-in-Ok-clause-sound : goal.returns-in-Ok-clause-sound
 returns-in-Ok-clause-sound c =
     taken_sound c.self.inside.descriptors.items c.self.inside.frames c.args.page c.replace-held.result c.self.invariant (taken (goal.at.returns-in-Ok-clause-sound c).After-replace-held)
-    c.replace-held.new.dest c.in-Ok.desc c.settle.new.frames c.in-Ok.ensures.moves
+    c.replace-held.new.dest c.in-Ok.desc c.settle.new.frames c.in-Ok.ensures.changes
 
 pub returns-in-Ok-clause-ok : goal.returns-in-Ok-clause-ok
 returns-in-Ok-clause-ok c =
-    rw (← c.self.view_is) (taken_settles c.self.inside.descriptors.items c.self.inside.frames c.args.page c.replace-held.result c.self.invariant
+    rw (← c.self.view_is) (taken_comes c.self.inside.descriptors.items c.self.inside.frames c.args.page c.replace-held.result c.self.invariant
     (taken (goal.at.returns-in-Ok-clause-ok c).After-replace-held) c.replace-held.new.dest c.in-Ok.desc c.args.plan c.settle.new.frames
-    c.in-Ok.ensures.at_plan c.in-Ok.ensures.moves)
+    c.in-Ok.ensures.at_plan c.in-Ok.ensures.changes)
 
 back : (c : After-replace-held) (kept : Desc) → kept ≡ c.replace-held.result → set (set c.self.inside.descriptors.items c.args.page c.replace-held.new.dest) c.args.page kept ≡ c.self.inside.descriptors.items
 back c kept same = put_back c.self.inside.descriptors.items c.self.inside.frames c.args.page c.replace-held.result c.self.invariant (taken c) c.replace-held.new.dest kept same

@@ -32,4 +32,4 @@ returns c =
     let within : c.args.page.0 < length in_self.blocks.descriptors = rw (← c.self.view_is) at c.requires.inside in
     let sized : stored_sizes in_self.codec c.args.lines.now ≡ c.args.sizes.now = rw (← c.self.view_is) at c.requires.sized in
     rw (← c.self.view_is) (rewrites s in_self.sizes.items c.self.invariant c.args.page.0 within c.args.lines.now c.told-lines c.requires.whole c.settle.new.self.descriptors c.settle.new.self.used
-    c.plan_with.result _ (c.plan_with.ensures in_self.codec sized) c.in_default.ensures.ok c.in_default.ensures.frames (rw c.put_page.ensures refl))
+    c.plan_with.result _ (c.plan_with.ensures in_self.codec sized) c.in_default.ensures.ok c.in_default.ensures.frames c.in_default.ensures.sound (rw c.put_page.ensures refl))

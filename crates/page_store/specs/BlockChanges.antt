@@ -16,9 +16,9 @@ pub record IsFreeBut (used : List ℕ) (held : Option Place) (place : Place) : T
 abbrev pub HasNoneBut : List ℕ → Option Place → ℕ → Type 0
 HasNoneBut used held order = (unit : ℕ) → IsFreeBut used held (place_at order unit) → ⊥
 
--- The page's block moves as it is to, and the blocks of other pages stay in use and apart from it. A unit in use after it is
--- the new block's, or was in use and not the old block's.
-pub record Moves (used : List ℕ) (before after : Option Place) (used' : List ℕ) : Type 0 where
+-- The page's block is changed for another as it is to be, and the blocks of other pages stay in use and apart from it. A unit in
+-- use after it is the new block's, or was in use and not the old block's.
+pub record ChangesBlock (used : List ℕ) (before after : Option Place) (used' : List ℕ) : Type 0 where
   pub new_block : IsNewBlock used before after
   pub used_is : used' ≡ moved used before after
   pub same : length used' ≡ length used
@@ -30,4 +30,4 @@ pub record Moves (used : List ℕ) (before after : Option Place) (used' : List �
 -- a page comes into a block of an order
 pub record GetsBlock (used : List ℕ) (before : Option Place) (order : ℕ) (block : Place) (used' : List ℕ) : Type 0 where
   pub order_is : block.order ≡ order
-  pub moves : Moves used before (Some block) used'
+  pub changes : ChangesBlock used before (Some block) used'

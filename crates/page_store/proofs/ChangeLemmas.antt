@@ -1,4 +1,4 @@
--- One page's block, before and after it moves.
+-- One page's block, before and after it is changed for another.
 use Rattle.std.proofs.Common.{◌≡◌, ◌<◌, ◌≤◌, ◌+◌, ◌%◌, ◌^◌, ◌∙◌, ◌⊎◌, leb, ltb, eqb, ◌&&◌, ℕ, zero, suc, true, false, Some, None, Option, Ok, Err, Result, IfOk, IfSome, MatchResult, List, inl, inr, refl, sym, subst, arith}
 use Rattle.std.specs.Int.{bit_at}
 use Rattle.std.proofs.lemmas.Bool.{cases_Bool, cases_lt, and_from, and_parts, ltb-true, leb-true, lt-ltb, le-leb, cond-true, cond-false, eqb-true, eq-eqb}
@@ -9,7 +9,7 @@ use Rattle.buddy_frames.proofs.TableLemmas.{all_at, all_from, clears_byte}
 use Rattle.buddy_frames.proofs.PlaceLemmas.{byte_at, fits_frame, to_run}
 use Rattle.buddy_frames.proofs.MoveLemmas.{taken-given}
 use Rattle.page_store.specs.PageBlocks.{IsNewBlock, IsIn, moved}
-use Rattle.page_store.specs.Moves.{HasNoneBut, GetsBlock}
+use Rattle.page_store.specs.BlockChanges.{HasNoneBut, GetsBlock}
 
 -- a unit in use after a place came into use
 set_owned : (before : List ℕ) (place : Place) (after : List ℕ) (unit : ℕ) → SetsUnits before place 1 after → in_use after unit ≡ 1
@@ -56,7 +56,7 @@ taken_gets used order new used' takes live keeps apart =
     let order_is : new.order ≡ order = takes.choice.order_is in
     record {
       order_is = order_is;
-      moves = record {
+      changes = record {
         new_block = subst (λ (k : ℕ). IsChoice used k new) (sym order_is) takes.choice;
         used_is = takes.after_is;
         same = takes.units.same;
@@ -79,7 +79,7 @@ trimmed_gets used old order new used' le is frees used_is takes live keeps apart
     let unit_is : new.unit ≡ old.unit = cc in
     record {
       order_is = order_is;
-      moves = record {
+      changes = record {
         new_block = (λ room. unit_is, λ more. absurd (omega arith));
         used_is = used_is;
         same = takes.same ∙ frees.same;
@@ -98,7 +98,7 @@ grown_gets used old order new used' lt frees takes live keeps apart =
     let order_is : new.order ≡ order = takes.choice.order_is in
     record {
       order_is = order_is;
-      moves = record {
+      changes = record {
         new_block = (λ room. absurd (omega arith), λ more. subst (λ (k : ℕ). IsChoice (given used old) k new) (sym order_is) takes.choice);
         used_is = takes.after_is;
         same = takes.units.same ∙ frees.same;
