@@ -10,4 +10,4 @@ use Rattle.rv_core.specs.Answers.{StopsWithCause}
 pub stops_later : {T : Type 0} (old mid now : ℕ) (crowded : NoSpace → Type 0) (result : Result T Ended) → old ≤ mid → StopsWithCause mid now crowded result → StopsWithCause old now crowded result
 stops_later old mid now crowded (Ok t) le h = record { later = omega (arith, h.later); stop = tt }
 stops_later old mid now crowded (Err (Stop refusal)) le h = record { later = omega (arith, h.later); stop = (rose_since old mid now le h.stop.0, h.stop.1) }
-stops_later old mid now crowded (Err (Trap cause pc value)) le h = record { later = omega (arith, h.later); stop = tt }
+stops_later old mid now crowded (Err (Trap trap)) le h = record { later = omega (arith, h.later); stop = tt }

@@ -1,9 +1,8 @@
 -- The accesses of a trace, each like the load or the store of its width.
-use Rattle.std.specs.Prelude.{◌≡◌, ◌%◌, ◌-◌, ◌==◌, ◌⊎◌, ℕ, if◌then◌else◌, List, [], Option, Some, None, Result, Ok, Err}
+use Rattle.std.specs.Prelude.{◌≡◌, ◌%◌, ◌-◌, ◌==◌, ◌⊎◌, ℕ, if◌then◌else◌, List, []}
 use Rattle.hier_types.specs.Span.{Has, Span, first}
 use Rattle.hier_types.specs.declared.access.Access.{Access}
 use Rattle.hier_types.specs.declared.access.Access.TheVariants.{Load, Store}
-use Rattle.hier_types.specs.declared.faults.NoSpace.{NoSpace}
 use Rattle.rv_decode.specs.declared.instruction.LoadOp.{LoadOp}
 use Rattle.rv_decode.specs.declared.instruction.LoadOp.TheVariants.{Lbu, Lhu, Lw}
 use Rattle.rv_decode.specs.declared.instruction.StoreOp.{StoreOp}
@@ -21,11 +20,11 @@ width_of (Load at width) = width
 width_of (Store at width value) = width
 
 -- the load and the store of 1, 2 or 4 bytes; what is loaded is not extended by a sign
-abbrev pub load_of : ℕ → LoadOp
-load_of width = if width == 1 then Lbu else if width == 2 then Lhu else Lw
+abbrev pub load_op : ℕ → LoadOp
+load_op width = if width == 1 then Lbu else if width == 2 then Lhu else Lw
 
-abbrev pub store_of : ℕ → StoreOp
-store_of width = if width == 1 then Sb else if width == 2 then Sh else Sw
+abbrev pub store_op : ℕ → StoreOp
+store_op width = if width == 1 then Sb else if width == 2 then Sh else Sw
 
 -- An access of 1, 2 or 4 bytes at a multiple of its width in the span.
 pub record IsAccess (span : Span) (access : Access) : Type 0 where
@@ -35,20 +34,15 @@ pub record IsAccess (span : Span) (access : Access) : Type 0 where
 
 -- the value that a load gives; a store gives 0
 abbrev pub value_of : Span → Access → List ℕ → ℕ
-value_of span (Load at width) bytes = load_value (load_of width) bytes (at - first span)
+value_of span (Load at width) bytes = load_value (load_op width) bytes (at - first span)
 value_of span (Store at width value) bytes = 0
 
 -- the bytes after the access
 abbrev pub accessed : Span → Access → List ℕ → List ℕ
 accessed span (Load at width) bytes = bytes
-accessed span (Store at width value) bytes = put bytes (at - first span) (store_bytes (store_of width) value)
+accessed span (Store at width value) bytes = put bytes (at - first span) (store_bytes (store_op width) value)
 
 -- the bytes that the access pokes, with their addresses
 abbrev pub pokes_of_access : Access → List (ℕ × ℕ)
 pokes_of_access (Load at width) = []
-pokes_of_access (Store at width value) = addressed at (store_bytes (store_of width) value)
-
--- the refusal, if that is the answer
-abbrev pub refusal_of : {T : Type 0} → Result T NoSpace → Option NoSpace
-refusal_of (Ok t) = None
-refusal_of (Err refusal) = Some refusal
+pokes_of_access (Store at width value) = addressed at (store_bytes (store_op width) value)

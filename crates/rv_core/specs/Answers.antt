@@ -18,13 +18,13 @@ hart_of regs bytes = record { pc = regs.pc; x = regs.x; bytes = bytes }
 abbrev pub Answers : Effect → Hart → Result Did Ended → Hart → Type 0
 Answers effect old (Ok Retired) new = effect ≡ Goes new
 Answers effect old (Ok Call) new = (effect ≡ Calls) × (new ≡ old)
-Answers effect old (Err (Trap cause pc value)) new = (effect ≡ Faults cause value) × (pc ≡ old.pc) × (new ≡ old)
+Answers effect old (Err (Trap trap)) new = (effect ≡ Faults trap.cause trap.value) × (trap.pc ≡ old.pc) × (new ≡ old)
 Answers effect old (Err (Stop refusal)) new = new ≡ old
 
 -- a stop is one of a touch that was refused, and has its cause
 abbrev pub IsJustified : ℕ → ℕ → (NoSpace → Type 0) → Ended → Type 0
 IsJustified before now crowded (Stop refusal) = Rose before now × crowded refusal
-IsJustified before now crowded (Trap cause pc value) = Unit {0}
+IsJustified before now crowded (Trap trap) = Unit {0}
 
 -- A stop comes only where the count of refusals rose, and the state as it now stands justifies it.
 pub record StopsWithCause {T : Type 0} (before now : ℕ) (crowded : NoSpace → Type 0) (result : Result T Ended) : Type 0 where

@@ -80,5 +80,5 @@ poked span h = if fetches span h then pokes_of_word span (decoded (fetched span 
 -- the refusal, if that is the answer
 abbrev pub stop_of : {T : Type 0} → Result T Ended → Option NoSpace
 stop_of (Err (Stop refusal)) = Some refusal
-stop_of (Err (Trap cause pc value)) = None
+stop_of (Err (Trap trap)) = None
 stop_of (Ok t) = None

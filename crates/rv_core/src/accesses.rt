@@ -1,9 +1,9 @@
 // One access of a trace over a port.
 ghost use Rattle.std.specs.Prelude.{◌≡◌, [], ◌∷◌, IfOk, OnErr, OnOk};
-ghost use Rattle.hier_types.specs.Causes.{Refuses};
+ghost use Rattle.hier_types.specs.Causes.{Refuses, refusal_of};
 ghost use Rattle.hier_types.specs.PortCalls.{MadeInOrder};
 ghost use Rattle.hier_types.specs.Span.{line_at};
-ghost use Rattle.rv_core.specs.Accesses.{IsAccess, accessed, address_of, load_of, pokes_of_access, refusal_of, store_of, value_of};
+ghost use Rattle.rv_core.specs.Accesses.{IsAccess, accessed, address_of, load_op, pokes_of_access, store_op, value_of};
 
 use crate::data::{loaded_from, store_to, touch_at};
 use hier_types::{Access, NoSpace, Port};
@@ -37,7 +37,7 @@ pub fn access<P: Port>(port: &mut P, asked: &Access) -> Result<u32, NoSpace>
 
 /// The load of 1, 2 or 4 bytes that extends no sign.
 fn load_op(width: u8) -> LoadOp
-    ensures { result ≡ load_of width }
+    ensures { result ≡ load_op width }
 {
     match width {
         1 => LoadOp::Lbu,
@@ -48,7 +48,7 @@ fn load_op(width: u8) -> LoadOp
 
 /// The store of 1, 2 or 4 bytes.
 fn store_op(width: u8) -> StoreOp
-    ensures { result ≡ store_of width }
+    ensures { result ≡ store_op width }
 {
     match width {
         1 => StoreOp::Sb,

@@ -1,7 +1,7 @@
 // The guest's data, over a port: bytes of one line at a time.
-ghost use Rattle.std.specs.Prelude.{◌≡◌, ◌-◌, ◌%◌, Some, OnOk};
+ghost use Rattle.std.specs.Prelude.{◌≡◌, ◌-◌, ◌%◌, OnOk};
 ghost use Rattle.hier_types.specs.Causes.{Refuses};
-ghost use Rattle.hier_types.specs.PortCalls.{PortMade, poke_calls};
+ghost use Rattle.hier_types.specs.PortCalls.{IsHeld, PortMade, poke_calls};
 ghost use Rattle.hier_types.specs.Span.{first, Has, line_at};
 ghost use Rattle.rv_core.specs.Hart.{half_at, put, word_at};
 ghost use Rattle.rv_core.specs.Operations.{load_value, load_width, store_bytes, store_width};
@@ -13,7 +13,7 @@ use rv_decode::{LoadOp, StoreOp};
 /// Touches the line of an address in the span.
 pub fn touch_at<P: Port>(port: &mut P, at: u32) -> Result<(), NoSpace>
     requires { Has (P.span port.old) at }
-    ensures held { OnOk result (P.held port.new ≡ Some (line_at (P.span port.old) at)) }
+    ensures held { OnOk result (IsHeld (P.held port.new) (line_at (P.span port.old) at)) }
     ensures bytes { P.bytes port.new ≡ P.bytes port.old }
     ensures span { P.span port.new ≡ P.span port.old }
     ensures cause { Refuses (P.stops port.old) (P.stops port.new) (P.crowded port.new) result }
@@ -27,7 +27,7 @@ pub fn touch_at<P: Port>(port: &mut P, at: u32) -> Result<(), NoSpace>
 pub fn half_from<P: Port>(port: &P, at: u32) -> u16
     requires aligned { at % 2 ≡ 0 }
     requires has { Has (P.span port.now) at }
-    requires held { P.held port.now ≡ Some (line_at (P.span port.now) at) }
+    requires held { IsHeld (P.held port.now) (line_at (P.span port.now) at) }
     ensures { result ≡ half_at (P.bytes port.now) (at - first (P.span port.now)) }
 {
     u16::from_le_bytes([port.peek(at), port.peek(at + 1)])
@@ -37,7 +37,7 @@ pub fn half_from<P: Port>(port: &P, at: u32) -> u16
 pub fn word_from<P: Port>(port: &P, at: u32) -> u32
     requires aligned { at % 4 ≡ 0 }
     requires has { Has (P.span port.now) at }
-    requires held { P.held port.now ≡ Some (line_at (P.span port.now) at) }
+    requires held { IsHeld (P.held port.now) (line_at (P.span port.now) at) }
     ensures { result ≡ word_at (P.bytes port.now) (at - first (P.span port.now)) }
 {
     u32::from_le_bytes([
@@ -76,7 +76,7 @@ pub fn width_of_store(op: StoreOp) -> u32
 pub fn loaded_from<P: Port>(port: &P, op: LoadOp, at: u32) -> u32
     requires aligned { at % load_width op ≡ 0 }
     requires has { Has (P.span port.now) at }
-    requires held { P.held port.now ≡ Some (line_at (P.span port.now) at) }
+    requires held { IsHeld (P.held port.now) (line_at (P.span port.now) at) }
     ensures { result ≡ load_value op (P.bytes port.now) (at - first (P.span port.now)) }
 {
     match op {
@@ -92,7 +92,7 @@ pub fn loaded_from<P: Port>(port: &P, op: LoadOp, at: u32) -> u32
 pub fn store_to<P: Port>(port: &mut P, op: StoreOp, at: u32, value: u32)
     requires aligned { at % store_width op ≡ 0 }
     requires has { Has (P.span port.old) at }
-    requires held { P.held port.old ≡ Some (line_at (P.span port.old) at) }
+    requires held { IsHeld (P.held port.old) (line_at (P.span port.old) at) }
     ensures bytes { P.bytes port.new ≡ put (P.bytes port.old) (at - first (P.span port.old)) (store_bytes op value) }
     ensures span { P.span port.new ≡ P.span port.old }
     ensures stops { P.stops port.new ≡ P.stops port.old }

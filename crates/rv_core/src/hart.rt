@@ -3,7 +3,6 @@ ghost use Rattle.std.specs.Prelude.{◌≡◌, ◌≢◌, ◌⊎◌, ◌-◌, �
 ghost use Rattle.hier_types.specs.PortCalls.{MadeInOrder};
 ghost use Rattle.hier_types.specs.Span.{Has, has};
 ghost use Rattle.rv_decode.specs.Ranges.{Fits};
-ghost use Rattle.rv_core.specs.declared.hart.Ended.TheVariants.{Trap};
 ghost use Rattle.rv_core.specs.Answers.{Answers, StopsWithCause, hart_of};
 ghost use Rattle.rv_core.specs.Effect.{effect_at, effect_of, loads, stores};
 ghost use Rattle.rv_core.specs.Hart.{sum, written};
@@ -13,6 +12,7 @@ ghost use Rattle.rv_core.specs.Touched.{data_line, data_lines, data_pokes, poked
 use crate::alu::{extended, is_branch_taken, shifted, with_immediate, with_register};
 use crate::data::{loaded_from, store_to, touch_at, width_of_load, width_of_store, word_from};
 use crate::regs::Regs;
+use crate::traps::Trap;
 use hier_types::{NoSpace, Port};
 use rv_decode::{Instr, LoadOp, StoreOp, decode};
 
@@ -28,8 +28,8 @@ pub enum Did {
 /// Why an instruction was not done. Registers and bytes are as before it.
 #[derive(Clone, Copy, Debug, PartialEq, Eq)]
 pub enum Ended {
-    /// An exception, with its cause by the privileged manual's numbers ("mcause").
-    Trap { cause: u8, pc: u32, value: u32 },
+    /// An exception.
+    Trap(Trap),
     /// A touch was refused.
     Stop(NoSpace),
 }
@@ -47,29 +47,29 @@ pub fn step<P: Port>(regs: &mut Regs, port: &mut P) -> Result<Did, Ended>
 {
     let pc = regs.pc;
     if pc % 4 != 0 {
-        return Err(Ended::Trap {
+        return Err(Ended::Trap(Trap {
             cause: 0,
             pc,
             value: pc,
-        });
+        }));
     }
     if !port.span().has(pc) {
-        return Err(Ended::Trap {
+        return Err(Ended::Trap(Trap {
             cause: 1,
             pc,
             value: pc,
-        });
+        }));
     }
     if let Err(refusal) = touch_at(port, pc) {
         return Err(Ended::Stop(refusal));
     }
     let word = word_from(port, pc);
     match decode(word) {
-        None => Err(Ended::Trap {
+        None => Err(Ended::Trap(Trap {
             cause: 2,
             pc,
             value: word,
-        }),
+        })),
         Some(instr) => execute(instr, regs, port),
     }
 }
@@ -127,11 +127,11 @@ fn execute<P: Port>(instr: Instr, regs: &mut Regs, port: &mut P) -> Result<Did, 
         Instr::Fence => Ok(advance(regs, 0, 0)),
         Instr::FenceI => Ok(advance(regs, 0, 0)),
         Instr::Ecall => Ok(Did::Call),
-        Instr::Ebreak => Err(Ended::Trap {
+        Instr::Ebreak => Err(Ended::Trap(Trap {
             cause: 3,
             pc,
             value: pc,
-        }),
+        })),
     }
 }
 
@@ -151,14 +151,14 @@ fn advance(regs: &mut Regs, rd: u8, value: u32) -> Did
 fn jump(regs: &mut Regs, rd: u8, target: u32) -> Result<(), Ended>
     requires { rd < 32 }
     ensures ok { OnOk result ((target % 4 ≡ 0) × (regs.new.pc ≡ target) × (regs.new.x ≡ written regs.old.x rd (sum regs.old.pc 4))) }
-    ensures err { IfErr result (λ ended. (target % 4 ≢ 0) × (ended ≡ Trap 0 regs.old.pc target) × (regs.new ≡ regs.old)) }
+    ensures err { IfErr result (λ ended. (target % 4 ≢ 0) × (ended ≡ Ended.Trap (record { cause = 0; pc = regs.old.pc; value = target })) × (regs.new ≡ regs.old)) }
 {
     if target % 4 != 0 {
-        return Err(Ended::Trap {
+        return Err(Ended::Trap(Trap {
             cause: 0,
             pc: regs.pc,
             value: target,
-        });
+        }));
     }
     let link = regs.pc.wrapping_add(4);
     regs.set(rd, link);
@@ -177,21 +177,21 @@ fn check_access<P: Port>(
 ) -> Result<(), Ended>
     requires { 0 < width }
     ensures ok { OnOk result ((at % width ≡ 0) × Has (P.span port.now) at) }
-    ensures err { IfErr result (λ ended. ((at % width ≢ 0) × (ended ≡ Trap misaligned pc at)) ⊎ ((at % width ≡ 0) × (has (P.span port.now) at ≡ false) × (ended ≡ Trap outside pc at))) }
+    ensures err { IfErr result (λ ended. ((at % width ≢ 0) × (ended ≡ Ended.Trap (record { cause = misaligned; pc = pc; value = at }))) ⊎ ((at % width ≡ 0) × (has (P.span port.now) at ≡ false) × (ended ≡ Ended.Trap (record { cause = outside; pc = pc; value = at })))) }
 {
     if at % width != 0 {
-        return Err(Ended::Trap {
+        return Err(Ended::Trap(Trap {
             cause: misaligned,
             pc,
             value: at,
-        });
+        }));
     }
     if !port.span().has(at) {
-        return Err(Ended::Trap {
+        return Err(Ended::Trap(Trap {
             cause: outside,
             pc,
             value: at,
-        });
+        }));
     }
     Ok(())
 }

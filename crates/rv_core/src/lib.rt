@@ -10,7 +10,9 @@ mod hart;
 mod regs;
 #[cfg(test)]
 mod tests;
+mod traps;
 
 pub use accesses::access;
 pub use hart::{Did, Ended, step};
 pub use regs::Regs;
+pub use traps::Trap;

@@ -456,7 +456,7 @@ fn exceptions(rt: HostRuntime) {
         let mut port = page_of(&[word]);
         let mut regs = registers(0, 0);
         regs.pc = pc;
-        let trap = Ended::Trap { cause, pc, value };
+        let trap = Ended::Trap(Trap { cause, pc, value });
         assert_eq!(rt; step(&mut regs, &mut port), Err(trap));
         assert_eq!(rt; regs.pc, pc);
         assert_eq!(rt; regs.x, [0; 32]);

@@ -1,6 +1,7 @@
 // One byte for each address of the guest's span.
 ghost use Rattle.std.specs.Prelude.{◌≡◌, ◌+◌, ◌*◌, ◌<◌, ◌≤◌, ◌++◌, None, IfOk, length, replicate, take};
 ghost use Rattle.elf_image.specs.Image.{memory_of};
+ghost use Rattle.rv_flat.specs.Flat.{FlatPoke, FlatTouch};
 
 use elf_image::Image;
 use hier_types::{Geometry, LineNo, NoMemory, NoSpace, PAGE_BYTES, PageNo, Port};
@@ -59,9 +60,9 @@ impl Port for FlatMemory {
 
     ghost crowded = { λ m refusal. ⊥ };
 
-    ghost did_touch = { λ old line answer new. Unit {0} };
+    ghost did_touch = { FlatTouch };
 
-    ghost did_poke = { λ old at byte new. Unit {0} };
+    ghost did_poke = { FlatPoke };
 
     fn span(&self) -> Geometry {
         self.geometry

@@ -1,3 +1,8 @@
 mod CallLemmas
+pub mod CodeLemmas
+pub mod FollowsLemmas
+pub mod HeadlineLemmas
 mod JoinLemmas
-pub mod RunLemmas
+pub mod OneBeatLemmas
+mod ProgramLemmas
+mod StepLemmas

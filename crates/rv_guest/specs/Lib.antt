@@ -1,4 +1,10 @@
-pub mod Beat
+pub mod Beside
+pub mod Flat
+pub mod FlatRun
+pub mod FollowsFlat
+pub mod Headline
 pub mod Lines
-pub mod Runs
+pub mod Programs
+pub mod Start
 pub mod State
+pub mod Steps

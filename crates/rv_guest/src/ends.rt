@@ -1,13 +1,14 @@
 // How a run ends.
 use hier_types::NoSpace;
+use rv_core::Trap;
 
 /// How a run ends.
 #[derive(Clone, Copy, Debug, PartialEq, Eq)]
 pub enum MachineEnd {
     /// The guest ended itself with a status.
     Exit(u32),
-    /// An instruction trapped, with the cause by the privileged manual's numbers ("mcause").
-    Trap { cause: u8, pc: u32, value: u32 },
+    /// An instruction trapped.
+    Trap(Trap),
     /// As many instructions retired as the budget allows.
     Budget,
     /// A touch was refused: no free place holds a page that outgrew its own.

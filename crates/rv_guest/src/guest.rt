@@ -1,13 +1,13 @@
 // The hart with what a program has besides: its break, and how many of its instructions retired.
-ghost use Rattle.std.specs.Prelude.{◌≡◌, ◌+◌, ◌-◌, ◌^◌, ◌<◌, ◌≤◌, ℕ, List, Some};
+ghost use Rattle.std.specs.Prelude.{◌≡◌, ◌-◌, ◌^◌, ◌<◌, ◌≤◌, ℕ, List};
 ghost use Rattle.hier_types.specs.PortCalls.{MadeInOrder};
-ghost use Rattle.hier_types.specs.Span.{past};
-ghost use Rattle.rv_core.specs.Effect.{Calls, effect_at};
-ghost use Rattle.sys_shim.specs.Streams.{FaultsStay, stream, streams};
-ghost use Rattle.rv_guest.specs.Beat.{DoesBeat, IsJustified};
-ghost use Rattle.rv_guest.specs.Lines.{lines_at, lines_of_effect, pokes_at, pokes_of_effect, stop_of};
-ghost use Rattle.rv_guest.specs.Runs.{Runs};
-ghost use Rattle.rv_guest.specs.State.{start_state, state_of};
+ghost use Rattle.hier_types.specs.Streams.{FaultsStay, went};
+ghost use Rattle.rv_core.specs.Effect.{Calls};
+ghost use Rattle.rv_guest.specs.Beside.{guest_at};
+ghost use Rattle.rv_guest.specs.Lines.{lines_at, lines_of_effect, pokes_at, pokes_of_effect, stop_of_beat};
+ghost use Rattle.rv_guest.specs.Start.{start_state};
+ghost use Rattle.rv_guest.specs.State.{code_at, state_of};
+ghost use Rattle.rv_guest.specs.Steps.{DoesBeat, IsJustified};
 
 use crate::ends::MachineEnd;
 use hier_types::{Geometry, Port, Sink, Source};
@@ -50,8 +50,9 @@ impl Guest {
         }
     }
 
-    /// One instruction, calls included. A trap, a refused touch and a fault of a stream leave registers, bytes and
+    /// One instruction, calls included. How the code is read stays. A trap, a refused touch and a fault of a stream leave registers, bytes and
     /// break as before.
+    #[tactic(auto, unfolding(crate::specs::State::code_at))]
     pub fn beat<P: Port, I: Source, O: Sink>(
         &mut self,
         port: &mut P,
@@ -59,15 +60,17 @@ impl Guest {
         out: &mut O,
     ) -> Option<MachineEnd>
         requires room { self.old.retired < 2 ^ 64 - 1 }
-        ensures did { DoesBeat (P.span port.old) (state_of self.old (P.bytes port.old)) result (state_of self.new (P.bytes port.new)) (streams (stream (I.left input.old) (I.left input.new) (I.faults input.old) (I.faults input.new)) (stream (O.written out.old) (O.written out.new) (O.faults out.old) (O.faults out.new))) }
+        ensures did { DoesBeat (guest_at (P.span port.old) (state_of self.old (P.bytes port.old))) (state_of self.old (P.bytes port.old)) result (state_of self.new (P.bytes port.new)) (went I.left I.faults O.written O.faults input.old input.new out.old out.new) }
         ensures span { P.span port.new ≡ P.span port.old }
+        ensures code { code_at (P.span port.new) (state_of self.new (P.bytes port.new)) ≡ code_at (P.span port.old) (state_of self.old (P.bytes port.old)) }
         ensures stops { P.stops port.old ≤ P.stops port.new }
         ensures cause { IsJustified (P.stops port.old) (P.stops port.new) (P.crowded port.new) result }
-        ensures faults { FaultsStay (streams (stream (I.left input.old) (I.left input.new) (I.faults input.old) (I.faults input.new)) (stream (O.written out.old) (O.written out.new) (O.faults out.old) (O.faults out.new))) }
+        ensures faults { FaultsStay (went I.left I.faults O.written O.faults input.old input.new out.old out.new) }
 
         // The touches and pokes that it makes, and no other.
         ensures made { let old = state_of self.old (P.bytes port.old) in let new = state_of self.new (P.bytes port.new) in
-            MadeInOrder P.did_touch P.did_poke port.old (lines_at (P.span port.old) old) (pokes_at (P.span port.old) old result new.hart) (stop_of result) port.new }
+            let code = code_at (P.span port.old) old in
+            MadeInOrder P.did_touch P.did_poke port.old (lines_at code old) (pokes_at code old result new.hart) (stop_of_beat result) port.new }
     {
         match step(&mut self.regs, port) {
             Ok(Did::Retired) => {
@@ -75,36 +78,13 @@ impl Guest {
                 None
             }
             Ok(Did::Call) => self.call(port, input, out),
-            Err(Ended::Trap { cause, pc, value }) => Some(MachineEnd::Trap { cause, pc, value }),
+            Err(Ended::Trap(trap)) => Some(MachineEnd::Trap(trap)),
             Err(Ended::Stop(refusal)) => Some(MachineEnd::Space(refusal)),
         }
     }
 
-    /// Makes instructions until one ends the run, or as many have retired as the budget allows, which is tested before
-    /// each of them.
-    pub fn run<P: Port, I: Source, O: Sink>(
-        &mut self,
-        port: &mut P,
-        input: &mut I,
-        out: &mut O,
-        budget: u64,
-    ) -> MachineEnd
-        requires within { self.old.retired ≤ budget }
-        ensures runs { Runs (P.span port.old) budget (state_of self.old (P.bytes port.old)) result (state_of self.new (P.bytes port.new)) (streams (stream (I.left input.old) (I.left input.new) (I.faults input.old) (I.faults input.new)) (stream (O.written out.old) (O.written out.new) (O.faults out.old) (O.faults out.new))) }
-        ensures span { P.span port.new ≡ P.span port.old }
-        ensures stops { P.stops port.old ≤ P.stops port.new }
-        ensures cause { IsJustified (P.stops port.old) (P.stops port.new) (P.crowded port.new) (Some result) }
-        ensures faults { FaultsStay (streams (stream (I.left input.old) (I.left input.new) (I.faults input.old) (I.faults input.new)) (stream (O.written out.old) (O.written out.new) (O.faults out.old) (O.faults out.new))) }
-    {
-        while self.retired < budget {
-            if let Some(end) = self.beat(port, input, out) {
-                return end;
-            }
-        }
-        MachineEnd::Budget
-    }
-
     /// The call at which the hart stands.
+    #[tactic(auto, unfolding(crate::specs::State::code_at))]
     fn call<P: Port, I: Source, O: Sink>(
         &mut self,
         port: &mut P,
@@ -112,14 +92,16 @@ impl Guest {
         out: &mut O,
     ) -> Option<MachineEnd>
         requires room { self.old.retired < 2 ^ 64 - 1 }
-        requires stands { effect_at (P.span port.old) (state_of self.old (P.bytes port.old)).hart ≡ Calls }
-        ensures did { DoesBeat (P.span port.old) (state_of self.old (P.bytes port.old)) result (state_of self.new (P.bytes port.new)) (streams (stream (I.left input.old) (I.left input.new) (I.faults input.old) (I.faults input.new)) (stream (O.written out.old) (O.written out.new) (O.faults out.old) (O.faults out.new))) }
+        requires stands { let old = state_of self.old (P.bytes port.old) in (code_at (P.span port.old) old).effect old.hart ≡ Calls }
+        ensures did { DoesBeat (guest_at (P.span port.old) (state_of self.old (P.bytes port.old))) (state_of self.old (P.bytes port.old)) result (state_of self.new (P.bytes port.new)) (went I.left I.faults O.written O.faults input.old input.new out.old out.new) }
         ensures span { P.span port.new ≡ P.span port.old }
+        ensures code { code_at (P.span port.new) (state_of self.new (P.bytes port.new)) ≡ code_at (P.span port.old) (state_of self.old (P.bytes port.old)) }
         ensures stops { P.stops port.old ≤ P.stops port.new }
         ensures cause { IsJustified (P.stops port.old) (P.stops port.new) (P.crowded port.new) result }
-        ensures faults { FaultsStay (streams (stream (I.left input.old) (I.left input.new) (I.faults input.old) (I.faults input.new)) (stream (O.written out.old) (O.written out.new) (O.faults out.old) (O.faults out.new))) }
+        ensures faults { FaultsStay (went I.left I.faults O.written O.faults input.old input.new out.old out.new) }
         ensures made { let old = state_of self.old (P.bytes port.old) in let new = state_of self.new (P.bytes port.new) in
-            MadeInOrder P.did_touch P.did_poke port.old (lines_of_effect (P.span port.old) old Calls) (pokes_of_effect (P.span port.old) old Calls result new.hart) (stop_of result) port.new }
+            let code = code_at (P.span port.old) old in
+            MadeInOrder P.did_touch P.did_poke port.old (lines_of_effect code old Calls) (pokes_of_effect code old Calls result new.hart) (stop_of_beat result) port.new }
     {
         match call(&mut self.regs, port, input, out, &mut self.brk) {
             Called::Done => {

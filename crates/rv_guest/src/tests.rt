@@ -1,5 +1,6 @@
 use super::*;
 use hier_types::{BytesSource, Geometry, NullSink};
+use rv_core::Trap;
 use rv_flat::FlatMemory;
 use std::alloc::Global;
 use std::test::Fail;
@@ -8,10 +9,12 @@ const SPAN: Geometry = Geometry { base: 16, pages: 1 };
 
 /// The end of a run over a page of zeros, whose words are no instructions.
 fn end_of(alloc: Global, entry: u32, budget: u64) -> Result<MachineEnd, Fail> {
-    let mut memory = FlatMemory::new(alloc, SPAN).ok().ok_or("no memory")?;
+    let mut program = Program {
+        guest: Guest::start(entry, 0x1_0100, &SPAN),
+        port: FlatMemory::new(alloc, SPAN).ok().ok_or("no memory")?,
+    };
     let mut input = BytesSource::new(Vec::new(alloc), Vec::new(alloc));
-    let mut guest = Guest::start(entry, 0x1_0100, &SPAN);
-    Ok(guest.run(&mut memory, &mut input, &mut NullSink, budget))
+    Ok(program.run(budget, &mut input, &mut NullSink))
 }
 
 #[test]
@@ -36,7 +39,7 @@ fn runs_end(rt: HostRuntime) -> Result<(), Fail> {
         let pc = entry;
         assert_eq!(rt;
             end_of(rt.alloc(), entry, budget)?,
-            MachineEnd::Trap { cause, pc, value }
+            MachineEnd::Trap(Trap { cause, pc, value })
         );
         assert_eq!(rt; end_of(rt.alloc(), entry, 0)?, MachineEnd::Budget);
     }

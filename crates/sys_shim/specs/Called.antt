@@ -4,12 +4,12 @@ use Rattle.std.specs.Io.KnownBytes.{Appends}
 use Rattle.hier_types.specs.declared.faults.NoSpace.{NoSpace}
 use Rattle.hier_types.specs.Causes.{Rose}
 use Rattle.hier_types.specs.Span.{Span}
+use Rattle.hier_types.specs.Streams.{Streams, IsUntouched, AreUntouched, Gives, FailsToGive, FailsToTake}
 use Rattle.rv_core.specs.Hart.{Hart}
 use Rattle.sys_shim.specs.declared.brk.Brk.{Brk}
 use Rattle.sys_shim.specs.declared.calls.Called.{Called}
 use Rattle.sys_shim.specs.declared.calls.Called.TheVariants as called
 use Rattle.sys_shim.specs.Calls.{Request, Exit, Answer, Read, Write, SetBreak, answered, filled}
-use Rattle.sys_shim.specs.Streams.{Streams, IsUntouched, AreUntouched, Gives, FailsToGive, FailsToTake}
 
 -- the guest's own: its registers, its memory and its break
 pub record Task : Type 0 where

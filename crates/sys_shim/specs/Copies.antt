@@ -1,12 +1,6 @@
 -- What is copied of a line into a buffer.
-use Rattle.std.specs.Prelude.{◌≡◌, ℕ, ◌+◌, ◌-◌, ◌<◌, ◌==◌, if◌then◌else◌, List, Option, Some, None, Ok, Err, length, slice_index}
-use Rattle.hier_types.specs.declared.faults.NoSpace.{NoSpace}
-use Rattle.hier_types.specs.Calls.{Answer}
+use Rattle.std.specs.Prelude.{◌≡◌, ℕ, ◌+◌, ◌-◌, ◌<◌, ◌==◌, if◌then◌else◌, List, length, slice_index}
 use Rattle.hier_types.specs.Span.{Span, first, line_at}
-
-abbrev pub refusal_of : Answer → Option NoSpace
-refusal_of (Ok u) = None
-refusal_of (Err refusal) = Some refusal
 
 -- the bytes of one line were copied to their places in a buffer, which begins at an address
 pub record CopiesLine (span : Span) (bytes : List ℕ) (line at : ℕ) (old new : List ℕ) : Type 0 where

@@ -2,5 +2,3 @@ pub mod CallLines
 pub mod Called
 pub mod Calls
 pub mod Copies
-pub mod Flat
-pub mod Streams

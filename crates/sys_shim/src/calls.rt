@@ -1,13 +1,13 @@
 // The calls, by their numbers under Linux on RISC-V.
-ghost use Rattle.std.specs.Prelude.{◌≡◌, ◌+◌, ◌*◌, ◌%◌, ◌<◌, ◌≤◌, [], ◌∷◌, Some, length, slice_index, slice_set};
-ghost use Rattle.hier_types.specs.PortCalls.{MadeInOrder, PortMade, poke_calls};
+ghost use Rattle.std.specs.Prelude.{◌≡◌, ◌+◌, ◌*◌, ◌%◌, ◌<◌, ◌≤◌, [], ◌∷◌, length, slice_index, slice_set};
+ghost use Rattle.hier_types.specs.PortCalls.{IsHeld, MadeInOrder, PortMade, poke_calls};
 ghost use Rattle.hier_types.specs.Span.{Has, line_at};
+ghost use Rattle.hier_types.specs.Streams.{FaultsStay, IsUntouched, Stream, streams, use_of, went};
 ghost use Rattle.rv_core.specs.Answers.{hart_of};
 ghost use Rattle.rv_core.specs.Hart.{sum};
 ghost use Rattle.sys_shim.specs.CallLines.{lines_of_request, pokes_of_request};
 ghost use Rattle.sys_shim.specs.Called.{DoesCall, StopIsJustified, stop_of_call, task};
 ghost use Rattle.sys_shim.specs.Calls.{Read, answered, break_at, closed, filled, has_all, read_of, request_of, write_of};
-ghost use Rattle.sys_shim.specs.Streams.{FaultsStay, IsUntouched, Stream, stream, streams};
 ghost use Rattle.sys_shim.specs.declared.brk.Brk.{Brk};
 ghost use Rattle.sys_shim.specs.declared.calls.Called.TheVariants as called;
 
@@ -69,11 +69,11 @@ pub fn call<P: Port, I: Source, O: Sink>(
     out: &mut O,
     brk: &mut Brk,
 ) -> Called
-    ensures did { let old = hart_of regs.old (P.bytes port.old) in DoesCall (P.span port.old) (request_of (P.span port.old) brk.old old) (task old brk.old) result (task (hart_of regs.new (P.bytes port.new)) brk.new) (streams (stream (I.left input.old) (I.left input.new) (I.faults input.old) (I.faults input.new)) (stream (O.written out.old) (O.written out.new) (O.faults out.old) (O.faults out.new))) }
+    ensures did { let old = hart_of regs.old (P.bytes port.old) in DoesCall (P.span port.old) (request_of (P.span port.old) brk.old old) (task old brk.old) result (task (hart_of regs.new (P.bytes port.new)) brk.new) (went I.left I.faults O.written O.faults input.old input.new out.old out.new) }
     ensures span { P.span port.new ≡ P.span port.old }
     ensures stops { P.stops port.old ≤ P.stops port.new }
     ensures cause { StopIsJustified (P.stops port.old) (P.stops port.new) (P.crowded port.new) result }
-    ensures faults { FaultsStay (streams (stream (I.left input.old) (I.left input.new) (I.faults input.old) (I.faults input.new)) (stream (O.written out.old) (O.written out.new) (O.faults out.old) (O.faults out.new))) }
+    ensures faults { FaultsStay (went I.left I.faults O.written O.faults input.old input.new out.old out.new) }
 
     // The touches and pokes that it makes, and no other.
     ensures made { let old = hart_of regs.old (P.bytes port.old) in let request = request_of (P.span port.old) brk.old old in
@@ -141,7 +141,7 @@ fn has_bytes(geometry: &Geometry, at: u32, count: u32) -> bool
 /// before the input is asked: where the touch is refused, nothing is taken.
 fn read<P: Port, I: Source>(regs: &mut Regs, port: &mut P, input: &mut I) -> Called
     ensures did { (brk : Brk) (output : Stream) → IsUntouched output → let old = hart_of regs.old (P.bytes port.old) in
-        DoesCall (P.span port.old) (read_of (P.span port.old) old) (task old brk) result (task (hart_of regs.new (P.bytes port.new)) brk) (streams (stream (I.left input.old) (I.left input.new) (I.faults input.old) (I.faults input.new)) output) }
+        DoesCall (P.span port.old) (read_of (P.span port.old) old) (task old brk) result (task (hart_of regs.new (P.bytes port.new)) brk) (streams (use_of I.left I.faults input.old input.new) output) }
     ensures span { P.span port.new ≡ P.span port.old }
     ensures stops { P.stops port.old ≤ P.stops port.new }
     ensures cause { StopIsJustified (P.stops port.old) (P.stops port.new) (P.crowded port.new) result }
@@ -174,7 +174,7 @@ fn read_line<P: Port, I: Source>(
     requires has { Has (P.span port.old) at }
     requires within { at % 64 + count ≤ 64 }
     ensures did { (brk : Brk) (output : Stream) → IsUntouched output → let old = hart_of regs.old (P.bytes port.old) in
-        DoesCall (P.span port.old) (Read at count) (task old brk) result (task (hart_of regs.new (P.bytes port.new)) brk) (streams (stream (I.left input.old) (I.left input.new) (I.faults input.old) (I.faults input.new)) output) }
+        DoesCall (P.span port.old) (Read at count) (task old brk) result (task (hart_of regs.new (P.bytes port.new)) brk) (streams (use_of I.left I.faults input.old input.new) output) }
     ensures span { P.span port.new ≡ P.span port.old }
     ensures stops { P.stops port.old ≤ P.stops port.new }
     ensures cause { StopIsJustified (P.stops port.old) (P.stops port.new) (P.crowded port.new) result }
@@ -196,7 +196,7 @@ fn read_line<P: Port, I: Source>(
 fn fill<P: Port>(regs: &mut Regs, port: &mut P, at: u32, got: &[u8]) -> Called
     requires has { Has (P.span port.old) at }
     requires within { at % 64 + length got.now ≤ 64 }
-    requires held { P.held port.old ≡ Some (line_at (P.span port.old) at) }
+    requires held { IsHeld (P.held port.old) (line_at (P.span port.old) at) }
     requires sized { length (P.bytes port.old) ≡ 4096 * (P.span port.old).pages }
     ensures done { result ≡ called.Done }
     ensures hart { hart_of regs.new (P.bytes port.new) ≡ answered (filled (P.span port.old) (hart_of regs.old (P.bytes port.old)) at got.now) (length got.now) }
@@ -212,7 +212,7 @@ fn fill<P: Port>(regs: &mut Regs, port: &mut P, at: u32, got: &[u8]) -> Called
 /// the output is asked.
 fn write<P: Port, O: Sink>(regs: &mut Regs, port: &mut P, out: &mut O) -> Called
     ensures did { (brk : Brk) (input : Stream) → IsUntouched input → let old = hart_of regs.old (P.bytes port.old) in
-        DoesCall (P.span port.old) (write_of (P.span port.old) old) (task old brk) result (task (hart_of regs.new (P.bytes port.new)) brk) (streams input (stream (O.written out.old) (O.written out.new) (O.faults out.old) (O.faults out.new))) }
+        DoesCall (P.span port.old) (write_of (P.span port.old) old) (task old brk) result (task (hart_of regs.new (P.bytes port.new)) brk) (streams input (use_of O.written O.faults out.old out.new)) }
     ensures span { P.span port.new ≡ P.span port.old }
     ensures stops { P.stops port.old ≤ P.stops port.new }
     ensures cause { StopIsJustified (P.stops port.old) (P.stops port.new) (P.crowded port.new) result }

@@ -1,12 +1,12 @@
 // Bytes between a buffer and the guest's memory.
-ghost use Rattle.std.specs.Prelude.{◌≡◌, ◌+◌, ◌-◌, ◌%◌, ◌<◌, ◌≤◌, [], ℕ, Some, OnOk, length, slice_index, take, drop};
-ghost use Rattle.hier_types.specs.Causes.{Refuses};
-ghost use Rattle.hier_types.specs.PortCalls.{MadeInOrder, PortMade, poke_calls};
+ghost use Rattle.std.specs.Prelude.{◌≡◌, ◌+◌, ◌-◌, ◌%◌, ◌<◌, ◌≤◌, [], ℕ, OnOk, length, slice_index, take, drop};
+ghost use Rattle.hier_types.specs.Causes.{Refuses, refusal_of};
+ghost use Rattle.hier_types.specs.PortCalls.{IsHeld, MadeInOrder, PortMade, poke_calls};
 ghost use Rattle.hier_types.specs.Span.{Has, HasLine, first, line_at, past};
 ghost use Rattle.rv_core.specs.Hart.{put};
 ghost use Rattle.rv_core.specs.Touched.{addressed};
 ghost use Rattle.sys_shim.specs.CallLines.{buffer_lines};
-ghost use Rattle.sys_shim.specs.Copies.{CopiesLine, refusal_of};
+ghost use Rattle.sys_shim.specs.Copies.{CopiesLine};
 
 use hier_types::{LINE_BYTES, LineNo, NoSpace, Port};
 
@@ -34,7 +34,7 @@ pub fn gather<P: Port>(port: &mut P, at: u32, into: &mut [u8]) -> Result<(), NoS
 
 /// Copies what the buffer has of the held line to its places.
 fn copy_line<P: Port>(port: &P, line: LineNo, at: u32, into: &mut [u8])
-    requires held { P.held port.now ≡ Some line.0 }
+    requires held { IsHeld (P.held port.now) line.0 }
     requires inside { HasLine (P.span port.now) line.0 }
     requires low { first (P.span port.now) ≤ at }
     requires high { at + length into.old ≤ past (P.span port.now) }
@@ -52,7 +52,7 @@ fn copy_line<P: Port>(port: &P, line: LineNo, at: u32, into: &mut [u8])
 pub fn scatter<P: Port>(port: &mut P, at: u32, bytes: &[u8])
     requires has { Has (P.span port.old) at }
     requires within { at % 64 + length bytes.now ≤ 64 }
-    requires held { P.held port.old ≡ Some (line_at (P.span port.old) at) }
+    requires held { IsHeld (P.held port.old) (line_at (P.span port.old) at) }
     ensures bytes { P.bytes port.new ≡ put (P.bytes port.old) (at - first (P.span port.old)) bytes.now }
     ensures span { P.span port.new ≡ P.span port.old }
     ensures stops { P.stops port.new ≡ P.stops port.old }

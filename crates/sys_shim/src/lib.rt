@@ -1,6 +1,6 @@
 //! The calls that the guest makes of its environment, over any port, source and sink. Contracts see the guest as its
-//! registers, bytes and break, and say each call by its row: what it asks for, answers and leaves. The reference
-//! machine of instructions and calls over flat memory is defined here; no cache, page or file is known.
+//! registers, bytes and break, and say each call by its row: what it asks for, answers and leaves. No cache, page or
+//! file is known.
 #![tactic(auto)]
 
 mod brk;
