@@ -4,7 +4,7 @@ use Rattle.std.specs.Io.KnownBytes.{Appends}
 use Rattle.hier_types.specs.Causes.{HasCause}
 use Rattle.hier_types.specs.Outside.{AppendsFront}
 use Rattle.hier_types.specs.declared.faults.Failed.{Failed}
-use Rattle.sys_shim.specs.Streams.{stream}
+use Rattle.hier_types.specs.Streams.{stream}
 use Rattle.hier_types.specs.declared.settings.Settings.{Settings}
 use Rattle.run_report.specs.declared.end.End.{End}
 use Rattle.run_report.specs.declared.report.Report.{Report}

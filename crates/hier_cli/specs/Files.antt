@@ -2,7 +2,7 @@
 use Rattle.std.specs.Prelude.{◌≡◌, ◌⊎◌, ⊤, ℕ, ◌<◌, ◌≤◌, List, length, Option, Some, None, MatchOption, IfSome}
 use Rattle.hier_types.specs.Causes.{Rose}
 use Rattle.hier_types.specs.Outside.{file_of}
-use Rattle.sys_shim.specs.Streams.{AreUntouched, Streams}
+use Rattle.hier_types.specs.Streams.{AreUntouched, Streams}
 use Rattle.run_report.specs.declared.end.End.{End}
 use Rattle.run_report.specs.declared.end.End.TheVariants.{FileFault, TooLong, NoMemory}
 use Rattle.hier_cli.specs.declared.notice.Notice.{Notice}
@@ -18,8 +18,9 @@ pub record ShelfUse : Type 0 where
   pub faults_before : ℕ
   pub faults_now : ℕ
 
-abbrev pub shelf_use : Option (List (List ℕ × List ℕ)) → ℕ → ℕ → ShelfUse
-shelf_use files before now = record { files = files; faults_before = before; faults_now = now }
+-- what happened to a shelf from one of its states to another
+abbrev pub shelf_use_of : {S : Type 0} → (S → Option (List (List ℕ × List ℕ))) → (S → ℕ) → S → S → ShelfUse
+shelf_use_of files faults old new = record { files = files old; faults_before = faults old; faults_now = faults new }
 
 -- the shelf, and the input and the output
 pub record Outside : Type 0 where

@@ -3,7 +3,7 @@ use Rattle.std.specs.Prelude.{◌≡◌, ◌≢◌, ◌⊎◌, ℕ, ◌%◌, ◌
 use Rattle.std.specs.Io.KnownBytes.{Appends}
 use Rattle.hier_types.specs.declared.faults.Failed.{Failed}
 use Rattle.hier_types.specs.declared.settings.Settings.{Settings}
-use Rattle.sys_shim.specs.Streams.{FailsToTake, Stream}
+use Rattle.hier_types.specs.Streams.{FailsToTake, Stream}
 use Rattle.run_report.specs.declared.end.End.{End}
 use Rattle.run_report.specs.declared.end.End.TheVariants.{Done, Exit, Usage, Setting, FileFault, TooLong, BadImage, BadTrace, Trap, Budget, Space, NoRoom, InFault, OutFault, NoteFault, NoMemory, NotBuilt}
 use Rattle.run_report.specs.Json.{json_text}
@@ -66,7 +66,7 @@ code_of FileFault = 202
 code_of TooLong = 203
 code_of (BadImage fault) = 204
 code_of (BadTrace fault) = 205
-code_of (Trap cause pc value) = 206
+code_of (Trap trap) = 206
 code_of Budget = 207
 code_of (Space at order free) = 208
 code_of (NoRoom at order) = 209

@@ -9,7 +9,7 @@ use Rattle.sim_words.specs.declared.request.WordsFault.{WordsFault}
 use Rattle.sim_words.specs.declared.request.WordsFault.TheVariants as fault
 use Rattle.hier_types.specs.Settings.{default_settings}
 use Rattle.hier_types.specs.declared.settings.Settings.{Settings}
-use Rattle.sys_shim.specs.Streams.{AreUntouched}
+use Rattle.hier_types.specs.Streams.{AreUntouched}
 use Rattle.run_report.specs.declared.end.End.{End}
 use Rattle.run_report.specs.declared.end.End.TheVariants.{Usage, Setting, NoMemory, NotBuilt}
 use Rattle.run_report.specs.declared.end.Part.TheVariants as part
@@ -18,7 +18,7 @@ use Rattle.hier_cli.specs.declared.notice.Notice.TheVariants.{Ended}
 use Rattle.hier_cli.specs.Files.{OnFile, Outside}
 use Rattle.hier_cli.specs.FlatRuns.{EndsFlat}
 use Rattle.hier_cli.specs.Images.{EndsImage}
-use Rattle.hier_cli.specs.Runs.{EndsRun}
+use Rattle.hier_cli.specs.ProgramRuns.{EndsRun}
 use Rattle.hier_cli.specs.Surveys.{EndsSurvey, PrintsAlone, demo_file}
 use Rattle.hier_cli.specs.Traces.{EndsTraceFile}
 

@@ -6,7 +6,7 @@ use Rattle.rv_asm.specs.Demo.{demo_instructions}
 use Rattle.rv_asm.specs.ElfFile.{elf_file}
 use Rattle.rv_asm.specs.Encoding.{word_of}
 use Rattle.sim_survey.specs.Filled.{lines_of_filled}
-use Rattle.sys_shim.specs.Streams.{IsUntouched, Stream, Streams}
+use Rattle.hier_types.specs.Streams.{IsUntouched, Stream, Streams}
 use Rattle.run_report.specs.declared.end.End.TheVariants.{Done, NoMemory}
 use Rattle.run_report.specs.ReportLines.{survey_text}
 use Rattle.hier_cli.specs.declared.notice.Notice.{Notice}

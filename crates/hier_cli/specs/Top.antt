@@ -3,7 +3,7 @@ use Rattle.std.specs.Prelude.{List, Result, map, string_bytes, String}
 use Rattle.std.specs.declared.alloc.Global.{Global}
 use Rattle.sim_words.specs.declared.request.Request.{Request}
 use Rattle.sim_words.specs.declared.request.WordsFault.{WordsFault}
-use Rattle.sys_shim.specs.Streams.{Stream}
+use Rattle.hier_types.specs.Streams.{Stream}
 use Rattle.run_report.specs.declared.end.End.{End}
 use Rattle.hier_cli.specs.declared.notice.Notice.{Notice}
 use Rattle.hier_cli.specs.Files.{Outside}

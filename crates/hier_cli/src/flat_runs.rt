@@ -1,19 +1,21 @@
 // Runs of the program in a file over flat memory.
-ghost use Rattle.std.specs.Prelude.{◌≡◌};
+ghost use Rattle.std.specs.Prelude.{◌≡◌, None, IfErr, IfOk};
+ghost use Rattle.elf_image.specs.Accepted.{fault_of};
 ghost use Rattle.hier_types.specs.Settings.{AreWithinRules};
-ghost use Rattle.sys_shim.specs.Streams.{stream, streams};
-ghost use Rattle.hier_cli.specs.FlatRuns.{EndsFlat, HasRoom, IsFlatEnd};
+ghost use Rattle.hier_types.specs.Streams.{went};
+ghost use Rattle.hier_cli.specs.FlatRuns.{EndsFlat, IsImageEnd};
 ghost use Rattle.hier_cli.specs.Notices.{IsTellable};
 
 use crate::notice::Notice;
-use crate::runs::image_of;
-use hier_types::{Settings, Sink, Source};
+use elf_image::{Image, ImageKind, read_image};
+use hier_machine::end_of;
+use hier_types::{Geometry, Settings, Sink, Source};
 use run_report::End;
 use rv_flat::FlatMemory;
-use rv_guest::{Guest, MachineEnd};
+use rv_guest::{Guest, Program};
 use std::alloc::Global;
 
-/// Runs the program in a file over flat memory.
+/// Runs the program in a file over flat memory, which refuses nothing.
 pub(crate) fn run_flat<I: Source, O: Sink>(
     alloc: Global,
     file: Vec<u8>,
@@ -22,7 +24,7 @@ pub(crate) fn run_flat<I: Source, O: Sink>(
     out: &mut O,
 ) -> Notice
     requires { AreWithinRules settings.now }
-    ensures ends { EndsFlat settings.now (streams (stream (I.left input.old) (I.left input.new) (I.faults input.old) (I.faults input.new)) (stream (O.written out.old) (O.written out.new) (O.faults out.old) (O.faults out.new))) file.items result }
+    ensures ends { EndsFlat settings.now (went I.left I.faults O.written O.faults input.old input.new out.old out.new) file.items result }
     ensures tellable { IsTellable result }
 {
     let image = match image_of(alloc, file, settings.geometry) {
@@ -33,25 +35,27 @@ pub(crate) fn run_flat<I: Source, O: Sink>(
         return Notice::Ended(End::NoMemory);
     };
     memory.load(&image);
-    let mut guest = Guest::start(image.entry(), image.end(), &settings.geometry);
-    let end = guest.run(&mut memory, input, out, settings.budget);
-    Notice::Retired {
-        end: flat_end(end),
-        retired: guest.retired,
+    let mut program = Program {
+        guest: Guest::start(image.entry(), image.end(), &settings.geometry),
+        port: memory,
+    };
+    match end_of(program.run(settings.budget, input, out)) {
+        Ok(end) => Notice::Retired {
+            end,
+            retired: program.guest.retired,
+        },
+        Err(_) => unreachable!(),
     }
 }
 
-/// The end of a run over flat memory, which refuses nothing.
-fn flat_end(end: MachineEnd) -> End
-    requires { HasRoom end }
-    ensures { IsFlatEnd end result }
+/// The image of a file.
+fn image_of(alloc: Global, file: Vec<u8>, geometry: Geometry) -> Result<Image, End>
+    ensures ok { IfOk result (λ image. (fault_of geometry file.items ≡ None) × (image ≡ record { span = geometry; file = file.items })) }
+    ensures err { IfErr result (IsImageEnd geometry file.items) }
 {
-    match end {
-        MachineEnd::Exit(status) => End::Exit { status },
-        MachineEnd::Trap { cause, pc, value } => End::Trap { cause, pc, value },
-        MachineEnd::Budget => End::Budget,
-        MachineEnd::Space(_) => unreachable!(),
-        MachineEnd::InFault => End::InFault,
-        MachineEnd::OutFault => End::OutFault,
+    match read_image(alloc, file, geometry) {
+        Ok(image) => Ok(image),
+        Err(fault) if fault.kind == ImageKind::NoMemory => Err(End::NoMemory),
+        Err(fault) => Err(End::BadImage { fault }),
     }
 }

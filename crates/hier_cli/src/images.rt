@@ -5,12 +5,12 @@ ghost use Rattle.std.specs.Io.KnownBytes.{Appends};
 ghost use Rattle.hier_types.specs.Causes.{HasCause};
 ghost use Rattle.hier_types.specs.Outside.{AppendsFront};
 ghost use Rattle.hier_types.specs.Settings.{AreWithinRules};
-ghost use Rattle.sys_shim.specs.Streams.{stream, streams};
+ghost use Rattle.hier_types.specs.Streams.{went};
 ghost use Rattle.hier_cli.specs.Images.{EndsImage, image_text, text_of_page};
 ghost use Rattle.hier_cli.specs.Notices.{IsTellable};
 
 use crate::notice::{Notice, end_after};
-use crate::runs::{end_of_machine, opened};
+use crate::runs::opened;
 use hier_machine::Machine;
 use hier_types::{Failed, Geometry, NullSink, PAGE_BYTES, PageNo, Settings, Sink, Source};
 use run_report::End;
@@ -25,7 +25,7 @@ pub(crate) fn run_for_image<I: Source, O: Sink>(
     out: &mut O,
 ) -> Notice
     requires { AreWithinRules settings.now }
-    ensures ends { EndsImage settings.now (streams (stream (I.left input.old) (I.left input.new) (I.faults input.old) (I.faults input.new)) (stream (O.written out.old) (O.written out.new) (O.faults out.old) (O.faults out.new))) file.items result }
+    ensures ends { EndsImage settings.now (went I.left I.faults O.written O.faults input.old input.new out.old out.new) file.items result }
     ensures tellable { IsTellable result }
 {
     let mut machine = match opened(alloc, file, settings) {
@@ -33,7 +33,7 @@ pub(crate) fn run_for_image<I: Source, O: Sink>(
         Err(end) => return Notice::Ended(end),
     };
     let end = machine.run(input, &mut NullSink);
-    let own = end_of_machine(&machine, end);
+    let own = machine.told(end);
     let retired = machine.retired();
     let printed = print_pages(&machine, settings.geometry, out);
     Notice::Retired {

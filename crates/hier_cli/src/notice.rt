@@ -1,7 +1,7 @@
 // What the note tells of the work.
 ghost use Rattle.std.specs.Prelude.{◌≡◌, true};
 ghost use Rattle.run_report.specs.ReportLines.{CanBeTold};
-ghost use Rattle.sys_shim.specs.Streams.{stream};
+ghost use Rattle.hier_types.specs.Streams.{use_of};
 ghost use Rattle.hier_cli.specs.Notices.{IsTellable, NotesNotice, end_after};
 ghost use Rattle.hier_cli.specs.declared.notice.Notice.TheVariants.{Reported};
 
@@ -29,7 +29,7 @@ pub(crate) fn write_notice<N: Sink>(
     note: &mut N,
 ) -> End
     requires { IsTellable notice }
-    ensures { NotesNotice settings.now notice (stream (N.written note.old) (N.written note.new) (N.faults note.old) (N.faults note.new)) result }
+    ensures { NotesNotice settings.now notice (use_of N.written N.faults note.old note.new) result }
 {
     match notice {
         Notice::Ended(end) => end_after(end, End::NoteFault, write_end(&end, None, note)),
@@ -49,7 +49,7 @@ pub(crate) fn write_notice<N: Sink>(
 fn write_json<N: Sink>(alloc: Global, report: &Report, settings: &Settings, note: &mut N) -> End
     requires told { CanBeTold report.now }
     requires json { settings.now.json ≡ true }
-    ensures { NotesNotice settings.now (Reported report.now) (stream (N.written note.old) (N.written note.new) (N.faults note.old) (N.faults note.new)) result }
+    ensures { NotesNotice settings.now (Reported report.now) (use_of N.written N.faults note.old note.new) result }
 {
     match to_json(alloc, report, &settings.geometry) {
         Ok(text) => end_after(report.end, End::NoteFault, note.write(&text)),

@@ -2,7 +2,7 @@
 ghost use Rattle.std.specs.Prelude.{◌≡◌, ◌≤◌, length};
 ghost use Rattle.page_plan.specs.Sizes.{sizes_of_memory};
 ghost use Rattle.sim_survey.specs.Filled.{lines_of_filled};
-ghost use Rattle.sys_shim.specs.Streams.{stream};
+ghost use Rattle.hier_types.specs.Streams.{use_of};
 ghost use Rattle.run_report.specs.ReportLines.{survey_text};
 ghost use Rattle.hier_cli.specs.Notices.{IsTellable};
 ghost use Rattle.hier_cli.specs.Surveys.{PrintedOrNoMemory, demo_file};
@@ -24,7 +24,7 @@ pub(crate) fn survey_file<R: Threads + Sync, O: Sink>(
     out: &mut O,
 ) -> Notice
     requires { length file.now ≤ 67108864 }
-    ensures ends { PrintedOrNoMemory (survey_text (sizes_of_memory codec (lines_of_filled file.now))) (stream (O.written out.old) (O.written out.new) (O.faults out.old) (O.faults out.new)) result }
+    ensures ends { PrintedOrNoMemory (survey_text (sizes_of_memory codec (lines_of_filled file.now))) (use_of O.written O.faults out.old out.new) result }
     ensures tellable { IsTellable result }
 {
     match survey(rt, alloc, codec, file) {
@@ -37,7 +37,7 @@ pub(crate) fn survey_file<R: Threads + Sync, O: Sink>(
 
 /// Writes the file of the program that a number makes.
 pub(crate) fn write_demo<O: Sink>(alloc: Global, number: u32, out: &mut O) -> Notice
-    ensures ends { PrintedOrNoMemory (demo_file number) (stream (O.written out.old) (O.written out.new) (O.faults out.old) (O.faults out.new)) result }
+    ensures ends { PrintedOrNoMemory (demo_file number) (use_of O.written O.faults out.old out.new) result }
     ensures tellable { IsTellable result }
 {
     match demo_program(alloc, number) {

@@ -11,6 +11,7 @@ mod files;
 mod instructions;
 mod room;
 mod runs;
+mod same_machine;
 mod streams;
 mod traces;
 

@@ -1,8 +1,8 @@
 // The program, over whatever stands outside of it.
 ghost use Rattle.std.specs.Prelude.{◌≡◌, IfErr, IfOk, string_bytes};
 ghost use Rattle.hier_types.specs.Settings.{AreWithinRules};
-ghost use Rattle.sys_shim.specs.Streams.{stream, streams};
-ghost use Rattle.hier_cli.specs.Files.{IsLoaded, IsLoadEnd, outside, shelf_use};
+ghost use Rattle.hier_types.specs.Streams.{use_of, went};
+ghost use Rattle.hier_cli.specs.Files.{IsLoaded, IsLoadEnd, outside, shelf_use_of};
 ghost use Rattle.hier_cli.specs.Notices.{IsTellable, code_of};
 ghost use Rattle.hier_cli.specs.Requests.{Obeys, end_of_words, notice_of};
 ghost use Rattle.hier_cli.specs.Top.{Finishes};
@@ -25,8 +25,8 @@ const FILE_LIMIT: u64 = 67_108_864;
 
 /// The bytes of a file.
 fn load<S: Shelf>(alloc: Global, shelf: &mut S, name: &str) -> Result<Vec<u8>, End>
-    ensures ok { IfOk result (λ file. IsLoaded (shelf_use (S.files shelf.old) (S.faults shelf.old) (S.faults shelf.new)) name.now file.items) }
-    ensures err { IfErr result (IsLoadEnd (shelf_use (S.files shelf.old) (S.faults shelf.old) (S.faults shelf.new)) name.now) }
+    ensures ok { IfOk result (λ file. IsLoaded (shelf_use_of S.files S.faults shelf.old shelf.new) name.now file.items) }
+    ensures err { IfErr result (IsLoadEnd (shelf_use_of S.files S.faults shelf.old shelf.new) name.now) }
 {
     match shelf.load(alloc, name, FILE_LIMIT) {
         Ok(file) => Ok(file),
@@ -47,7 +47,7 @@ fn obey<R: Threads + Sync, S: Shelf, I: Source, O: Sink>(
 ) -> Result<Notice, End>
     requires { AreWithinRules request.now.settings }
     ensures obeys { Obeys request.now.command (string_bytes request.now.file) request.now.settings
-        (outside (shelf_use (S.files shelf.old) (S.faults shelf.old) (S.faults shelf.new)) (streams (stream (I.left input.old) (I.left input.new) (I.faults input.old) (I.faults input.new)) (stream (O.written out.old) (O.written out.new) (O.faults out.old) (O.faults out.new)))) (notice_of result) }
+        (outside (shelf_use_of S.files S.faults shelf.old shelf.new) (went I.left I.faults O.written O.faults input.old input.new out.old out.new)) (notice_of result) }
     ensures tellable { IsTellable (notice_of result) }
 {
     let settings = &request.settings;
@@ -97,8 +97,8 @@ pub fn hiersim<R: Threads + Sync, S: Shelf, I: Source, O: Sink, N: Sink>(
     note: &mut N,
 ) -> Status
     ensures finishes { Finishes words.now
-        (outside (shelf_use (S.files shelf.old) (S.faults shelf.old) (S.faults shelf.new)) (streams (stream (I.left input.old) (I.left input.new) (I.faults input.old) (I.faults input.new)) (stream (O.written out.old) (O.written out.new) (O.faults out.old) (O.faults out.new))))
-        (stream (N.written note.old) (N.written note.new) (N.faults note.old) (N.faults note.new)) result.end }
+        (outside (shelf_use_of S.files S.faults shelf.old shelf.new) (went I.left I.faults O.written O.faults input.old input.new out.old out.new))
+        (use_of N.written N.faults note.old note.new) result.end }
     ensures code { result.code ≡ code_of result.end }
 {
     let request = match read_words(alloc, words) {

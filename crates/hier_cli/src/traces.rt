@@ -1,25 +1,26 @@
 // Traces of loads and stores, made over the memory hierarchy.
-ghost use Rattle.std.specs.Prelude.{◌≡◌, ◌≢◌, ◌<◌, ◌≤◌, ◌^◌, ◌∷◌, ◌++◌, ◌-◌, ◌*◌, ◌/◌, ◌%◌, None, false, drop, IfErr, IfOk, IfSome, OnErr, OnOk};
+ghost use Rattle.std.specs.Prelude.{◌≡◌, ◌≢◌, ◌<◌, ◌≤◌, ◌^◌, ◌++◌, ◌-◌, ◌*◌, [], false, drop, IfSome, OnErr, OnOk};
 ghost use Rattle.std.specs.Io.KnownBytes.{Appends};
 ghost use Rattle.hier_types.specs.Causes.{HasCause};
 ghost use Rattle.hier_types.specs.Outside.{AppendsFront};
 ghost use Rattle.hier_types.specs.Settings.{AreWithinRules};
 ghost use Rattle.hier_types.specs.declared.beats.Beat.TheVariants.{Hart};
+ghost use Rattle.hier_types.specs.Streams.{FaultsStay, IsUntouched, Stream, streams, use_of, went};
+ghost use Rattle.page_store.specs.Store.{sizing_of};
 ghost use Rattle.rv_core.specs.Accesses.{IsAccess, width_of};
 ghost use Rattle.run_report.specs.Texts as texts;
-ghost use Rattle.run_report.specs.declared.end.End.TheVariants.{NoteFault};
-ghost use Rattle.sys_shim.specs.Streams.{stream, streams};
-ghost use Rattle.trace_reader.specs.Rows.{numbered_rows};
-ghost use Rattle.trace_reader.specs.Trace.{accesses_of, first_fault};
-ghost use Rattle.hier_machine.specs.Start.{StartsEmpty};
+ghost use Rattle.hier_machine.specs.Memory.{store_of};
+ghost use Rattle.hier_machine.specs.Traces.{IsLoad, MakesAccess, PassesTurn, TraceBeats, trace_stands};
 ghost use Rattle.hier_cli.specs.Notices.{IsTellable};
-ghost use Rattle.hier_cli.specs.Traces.{EndsTraceFile, FailsAtAccess, IsFaultless, IsLoad, MakesAccess, MakesAll, TakesTurn, accesses_left, printed, with_next};
+ghost use Rattle.hier_cli.specs.Traces.{EndsTraceFile, IsFaultless, IsTraceEnd, accesses_left, printed, with_next};
 
 use crate::notice::Notice;
-use hier_machine::Machine;
+use beat_runs::{Runner, run};
+use hier_machine::{Machine, TraceEnd};
 use hier_types::{Access, Beat, Failed, Settings, Sink, Source};
 use run_report::{End, hex_digit};
 use std::alloc::Global;
+use std::marker::Model;
 use trace_reader::{TraceRows, check};
 
 /// Makes the accesses of the trace in a file, and reports. A trace with a fault makes none.
@@ -31,49 +32,138 @@ pub(crate) fn run_trace<I: Source, O: Sink>(
     out: &mut O,
 ) -> Notice
     requires { AreWithinRules settings.now }
-    ensures ends { EndsTraceFile settings.now (streams (stream (I.left input.old) (I.left input.new) (I.faults input.old) (I.faults input.new)) (stream (O.written out.old) (O.written out.new) (O.faults out.old) (O.faults out.new))) file.items result }
+    ensures ends { EndsTraceFile settings.now (went I.left I.faults O.written O.faults input.old input.new out.old out.new) file.items result }
     ensures tellable { IsTellable result }
 {
     if let Err(fault) = check(&file, settings.geometry) {
         return Notice::Ended(End::BadTrace { fault });
     }
-    let Ok(mut machine) = Machine::open_empty(alloc, settings) else {
+    let Ok(machine) = Machine::open_empty(alloc, settings) else {
         return Notice::Ended(End::NoMemory);
     };
-    let end = make_accesses(&mut machine, &file, settings, input, out);
-    Notice::Reported(machine.report(end))
+    let mut rows = TraceRows::new(&file, settings.geometry);
+    let next = next_access(&mut rows);
+    let mut trace = Trace {
+        machine,
+        rows,
+        next,
+    };
+    let end = run(&mut trace, &settings.beats, settings.budget, input, out);
+    let told = told(&trace.machine, end);
+    Notice::Reported(trace.machine.report(told))
 }
 
-/// Makes the accesses of a trace without a fault, one in each beat of the hart. The budget is tested before each beat.
-fn make_accesses<I: Source, O: Sink>(
-    machine: &mut Machine,
-    file: &[u8],
-    settings: &Settings,
-    input: &mut I,
-    out: &mut O,
-) -> End
-    requires rules { AreWithinRules settings.now }
-    requires starts { StartsEmpty settings.now machine.old }
-    requires accepted { first_fault settings.now.geometry (numbered_rows 1 file.now) ≡ None }
-    ensures makes { MakesAll settings.now.geometry machine.old (accesses_of settings.now.geometry (numbered_rows 1 file.now)) (streams (stream (I.left input.old) (I.left input.new) (I.faults input.old) (I.faults input.new)) (stream (O.written out.old) (O.written out.new) (O.faults out.old) (O.faults out.new))) result machine.new }
-    ensures own { result ≢ NoteFault }
+/// The end of a trace as the program's: of a refused block it tells the page, the order and what is free now.
+fn told(machine: &Machine, end: TraceEnd) -> End
+    ensures { IsTraceEnd machine.now.memory.span (store_of machine.now.memory) end result }
 {
-    let length = settings.beats.len();
-    let mut rows = TraceRows::new(file, settings.geometry);
-    let mut next = next_access(&mut rows);
-    let mut place = 0;
-    while let Some(access) = next {
-        if machine.retired() == settings.budget {
-            return End::Budget;
-        }
-        let beat = settings.beats.beat_at(place);
-        next = match take_turn(machine, beat, access, &mut rows, input, out) {
-            Ok(next) => next,
-            Err(end) => return end,
-        };
-        place = (place + 1) % length;
+    match end {
+        TraceEnd::Done => End::Done,
+        TraceEnd::Budget => End::Budget,
+        TraceEnd::Space(refusal) => machine.space(refusal),
+        TraceEnd::OutFault => End::OutFault,
     }
-    End::Done
+}
+
+/// A trace without a fault, over a machine of zeros, with the access that is next.
+#[derive(Drop)]
+struct Trace<'a> {
+    machine: Machine,
+    rows: TraceRows<'a>,
+    next: Option<Access>,
+}
+
+impl<'a> Model for Trace<'a> {
+    ghost use Rattle.std.specs.Prelude.{◌≡◌, IfSome};
+    ghost use Rattle.rv_core.specs.Accesses.{IsAccess};
+    ghost use Rattle.hier_machine.specs.Traces.{TraceState};
+    ghost use Rattle.hier_cli.specs.Traces.{IsFaultless, accesses_left, with_next};
+
+    ghost Value = { TraceState };
+
+    ghost view = { λ t. record { machine = t.machine; left = with_next t.next (accesses_left t.rows) } };
+
+    ghost invariant = { λ t. IsFaultless t.rows × (t.rows.span ≡ t.machine.memory.span) × IfSome t.next (IsAccess t.machine.memory.span) };
+}
+
+impl Trace<'_> {
+    /// Makes the next access, and prints its value where it is a load.
+    fn make_access<O: Sink>(&mut self, out: &mut O) -> Option<TraceEnd>
+        requires running { self.old.machine.ended ≡ false }
+        requires room { self.old.machine.guest.retired < 2 ^ 64 - 1 }
+        requires left { self.old.left ≢ [] }
+        ensures makes { (input : Stream) → IsUntouched input → MakesAccess printed (sizing_of (store_of self.old.machine.memory)) self.old result self.new (streams input (use_of O.written O.faults out.old out.new)) }
+        ensures running { self.new.machine.ended ≡ false }
+        ensures faults { O.faults out.old ≤ O.faults out.new }
+    {
+        let Some(access) = self.next else {
+            unreachable!();
+        };
+        let value = match self.machine.beat_access(&access) {
+            Ok(value) => value,
+            Err(refusal) => return Some(TraceEnd::Space(refusal)),
+        };
+        self.next = next_access(&mut self.rows);
+        if let Err(Failed) = print_access(&access, value, out) {
+            return Some(TraceEnd::OutFault);
+        }
+        None
+    }
+
+    /// A turn of the mover or the cleaner, which leaves the accesses.
+    fn pass_turn<I: Source, O: Sink>(
+        &mut self,
+        beat: Beat,
+        input: &mut I,
+        out: &mut O,
+    ) -> Option<TraceEnd>
+        requires running { self.old.machine.ended ≡ false }
+        requires room { self.old.machine.guest.retired < 2 ^ 64 - 1 }
+        requires idle { beat ≢ Hart }
+        ensures passes { PassesTurn (sizing_of (store_of self.old.machine.memory)) beat self.old result self.new (went I.left I.faults O.written O.faults input.old input.new out.old out.new) }
+        ensures running { self.new.machine.ended ≡ false }
+        ensures faults { FaultsStay (went I.left I.faults O.written O.faults input.old input.new out.old out.new) }
+    {
+        let _none = self.machine.beat(beat, input, out);
+        None
+    }
+}
+
+impl Runner for Trace<'_> {
+    type End = TraceEnd;
+
+    ghost retired = { λ t. t.machine.guest.retired };
+
+    ghost ready = { λ t. t.machine.ended ≡ false };
+
+    ghost may = { λ t. (t.machine.ended ≡ false) × (t.machine.guest.retired < 2 ^ 64 - 1) × (t.left ≢ []) };
+
+    ghost stands = { trace_stands };
+
+    ghost does = { λ beat old result new streams. TraceBeats printed (sizing_of (store_of old.machine.memory)) beat old result new streams };
+
+    fn stand(&mut self, budget: u64) -> Option<TraceEnd> {
+        if self.next.is_none() {
+            return Some(TraceEnd::Done);
+        }
+        if self.machine.retired() < budget {
+            return None;
+        }
+        Some(TraceEnd::Budget)
+    }
+
+    fn beat<I: Source, O: Sink>(
+        &mut self,
+        beat: Beat,
+        input: &mut I,
+        out: &mut O,
+    ) -> Option<TraceEnd> {
+        match beat {
+            Beat::Hart => self.make_access(out),
+            Beat::Mover => self.pass_turn(beat, input, out),
+            Beat::Cleaner => self.pass_turn(beat, input, out),
+        }
+    }
 }
 
 /// The next access of a trace without a fault.
@@ -87,53 +177,6 @@ fn next_access(rows: &mut TraceRows<'_>) -> Option<Access>
     match rows.read_row() {
         Ok(access) => access,
         Err(_) => unreachable!(),
-    }
-}
-
-/// One beat before an access, and the access that is then the next. The hart makes the one before it.
-fn take_turn<I: Source, O: Sink>(
-    machine: &mut Machine,
-    beat: Beat,
-    access: Access,
-    rows: &mut TraceRows<'_>,
-    input: &mut I,
-    out: &mut O,
-) -> Result<Option<Access>, End>
-    requires running { machine.old.ended ≡ false }
-    requires room { machine.old.guest.retired < 2 ^ 64 - 1 }
-    requires span { rows.old.span ≡ machine.old.memory.span }
-    requires access { IsAccess machine.old.memory.span access }
-    requires faultless { IsFaultless rows.old }
-    ensures ok { IfOk result (λ next. TakesTurn beat machine.old access (accesses_left rows.old) machine.new (with_next next (accesses_left rows.new)) (streams (stream (I.left input.old) (I.left input.new) (I.faults input.old) (I.faults input.new)) (stream (O.written out.old) (O.written out.new) (O.faults out.old) (O.faults out.new)))) }
-    ensures access { IfOk result (λ next. IfSome next (IsAccess machine.old.memory.span)) }
-    ensures err { IfErr result (λ end. (beat ≡ Hart) × FailsAtAccess machine.old access (stream (O.written out.old) (O.written out.new) (O.faults out.old) (O.faults out.new)) end machine.new × (I.left input.new ≡ I.left input.old)) }
-    ensures span { rows.new.span ≡ rows.old.span }
-    ensures faultless { IsFaultless rows.new }
-{
-    if beat != Beat::Hart {
-        let _none = machine.beat(beat, input, out);
-        return Ok(Some(access));
-    }
-    if let Err(end) = make_access(machine, &access, out) {
-        return Err(end);
-    }
-    Ok(next_access(rows))
-}
-
-/// One access, and the line of its value where it is a load.
-fn make_access<O: Sink>(machine: &mut Machine, access: &Access, out: &mut O) -> Result<(), End>
-    requires room { machine.old.guest.retired < 2 ^ 64 - 1 }
-    requires access { IsAccess machine.old.memory.span access.now }
-    ensures ok { OnOk result (MakesAccess machine.old access.now (stream (O.written out.old) (O.written out.new) (O.faults out.old) (O.faults out.new)) machine.new) }
-    ensures err { IfErr result (λ end. FailsAtAccess machine.old access.now (stream (O.written out.old) (O.written out.new) (O.faults out.old) (O.faults out.new)) end machine.new) }
-{
-    let value = match machine.beat_access(access) {
-        Ok(value) => value,
-        Err(refusal) => return Err(machine.space(refusal)),
-    };
-    match print_access(access, value, out) {
-        Ok(()) => Ok(()),
-        Err(Failed) => Err(End::OutFault),
     }
 }
 

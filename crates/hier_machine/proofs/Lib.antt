@@ -1,8 +1,9 @@
+pub mod FileRunLemmas
 pub mod KeepingLemmas
-pub mod MemoryLemmas
-pub mod PlacedLemmas
+pub mod ListsLemmas
+mod MemoryLemmas
+pub mod OneLemmas
+mod PlacedLemmas
 pub mod RunLemmas
-pub mod SettleLemmas
-pub mod StackLemmas
-pub mod TurnLemmas
-pub mod WordLemmas
+mod SettleLemmas
+pub mod TraceLemmas

@@ -9,8 +9,8 @@ use Rattle.recency.specs.declared.entry.Entry.{Entry}
 use Rattle.recency.specs.Kept.{Kept}
 use Rattle.recency.specs.Levels.{KeepsUnder, kept_of, overlay, overlay_from, set_at}
 use Rattle.page_store.specs.Store.{Store, fresh}
-use Rattle.hier_machine.specs.Memory.{bytes_of, lines_below, lines_of}
-use Rattle.hier_machine.specs.Start.{start_memory}
+use Rattle.hier_machine.specs.Memory.{guest_bytes, guest_lines, lines_below}
+use Rattle.hier_machine.specs.Start.{asked_sizing, start_memory}
 
 -- one line more of a page
 pub next_line : (lines : List (List ℕ)) (page index : ℕ) (line : List ℕ) → AreLines lines → slice_get lines (64 * page + index) ≡ Some line
@@ -52,7 +52,7 @@ keeps_none n ways old new len = record {
 }
 
 -- the lines of a memory that no level keeps a line of
-pub start_lines : (settings : Settings) (store : Store) → lines_of (start_memory settings store) ≡ store.lines
+pub start_lines : (settings : Settings) (store : Store) → guest_lines (start_memory settings store) ≡ store.lines
 start_lines settings store =
     overlay_none (lines_below (start_memory settings store).below) settings.l1_sets settings.l1_ways ∙ overlay_none store.lines settings.l2_sets (2 * settings.l2_ways)
 
@@ -63,8 +63,8 @@ flatten_zeros (suc n) =
     ap (λ rest. zero_line ++ rest) (flatten_zeros n) ∙ replicate-append-replicate 64 (64 * n) 0 ∙ ap (λ k. replicate k 0) size
 
 -- the bytes of a memory over a fresh store
-pub start_bytes : (settings : Settings) → bytes_of (start_memory settings (fresh settings.codec settings.geometry.pages settings.frames)) ≡ replicate (4096 * settings.geometry.pages) 0
+pub start_bytes : (settings : Settings) → guest_bytes (start_memory settings (fresh (asked_sizing settings) settings.geometry.pages)) ≡ replicate (4096 * settings.geometry.pages) 0
 start_bytes settings =
     let pages = settings.geometry.pages in
     let size : 64 * (64 * pages) ≡ 4096 * pages = omega arith in
-    ap flatten (start_lines settings (fresh settings.codec pages settings.frames)) ∙ flatten_zeros (64 * pages) ∙ ap (λ k. replicate k 0) size
+    ap flatten (start_lines settings (fresh (asked_sizing settings) pages)) ∙ flatten_zeros (64 * pages) ∙ ap (λ k. replicate k 0) size

@@ -8,8 +8,8 @@ use Rattle.hier_types.specs.Tabulate.{tabulate}
 use Rattle.hier_types.proofs.TableLemmas.{length-tabulate, part-tabulate, tabulate-add, tabulate-by_index, tabulate-none, tabulate-same}
 use Rattle.elf_image.specs.Image.{Loaded, byte_at, page_of}
 use Rattle.page_store.specs.declared.desc.Desc.TheVariants.{Zero}
-use Rattle.page_store.specs.Pages.{with_page, lines_of}
-use Rattle.page_store.specs.Store.{HasZero, Store}
+use Rattle.page_store.specs.Pages.{lines_of_page, with_page}
+use Rattle.page_store.specs.Store.{HasZero, Sizing, Store, sizing_of}
 use Rattle.page_store.proofs.ListLemmas.{get-set_other}
 use Rattle.hier_machine.specs.Lines.{line_in, lines_before}
 use Rattle.hier_machine.specs.Placed.{AwaitsImage, PlacedUpTo, zero_page}
@@ -40,18 +40,18 @@ parts_before image page inside =
     ap (λ n. tabulate (line_in image) (64 * page) ++ replicate n zero_line) rest
     ∙ ap (λ l. tabulate (line_in image) (64 * page) ++ l) (sym (replicate-append-replicate 64 (64 * (image.span.pages - (page + 1))) zero_line))
 
-lines_of_image : (image : Loaded) (page : ℕ) → lines_of (page_of image.span image.file page) ≡ tabulate (λ i. line_in image (64 * page + i)) 64
+lines_of_image : (image : Loaded) (page : ℕ) → lines_of_page (page_of image.span image.file page) ≡ tabulate (λ i. line_in image (64 * page + i)) 64
 lines_of_image image page =
     tabulate-same [] (λ i. take 64 (drop (64 * i) (page_of image.span image.file page))) (λ i. line_in image (64 * page + i)) 64 (λ k lt. line_of_page image page k lt)
 
 -- the lines after a page was placed
-placed_page : (image : Loaded) (page : ℕ) → page < image.span.pages → with_page (lines_before image page) page (lines_of (page_of image.span image.file page)) ≡ lines_before image (page + 1)
+placed_page : (image : Loaded) (page : ℕ) → page < image.span.pages → with_page (lines_before image page) page (lines_of_page (page_of image.span image.file page)) ≡ lines_before image (page + 1)
 placed_page image page inside =
     let f = line_in image in
     let back = replicate (64 * (image.span.pages - (page + 1))) zero_line in
     let more : 64 * (page + 1) ≡ 64 * page + 64 = omega arith in
-    ap (λ l. with_page l page (lines_of (page_of image.span image.file page))) (parts_before image page inside)
-    ∙ with_parts (tabulate f (64 * page)) (replicate 64 zero_line) back (lines_of (page_of image.span image.file page)) page (length-tabulate f (64 * page)) (length-replicate 64 zero_line)
+    ap (λ l. with_page l page (lines_of_page (page_of image.span image.file page))) (parts_before image page inside)
+    ∙ with_parts (tabulate f (64 * page)) (replicate 64 zero_line) back (lines_of_page (page_of image.span image.file page)) page (length-tabulate f (64 * page)) (length-replicate 64 zero_line)
     ∙ ap (λ l. tabulate f (64 * page) ++ (l ++ back)) (lines_of_image image page)
     ∙ sym (append_assoc (tabulate f (64 * page)) (tabulate (λ i. f (64 * page + i)) 64) back)
     ∙ ap (λ l. l ++ back) (sym (tabulate-add f (64 * page) 64) ∙ ap (tabulate f) (sym more))
@@ -61,7 +61,7 @@ get-replicate zero k x d lt = absurd (omega arith)
 get-replicate (suc n) zero x d lt = refl
 get-replicate (suc n) (suc k) x d lt = get-replicate n k x d (omega arith)
 
-lines_of_zeros : lines_of zero_page ≡ replicate 64 zero_line
+lines_of_zeros : lines_of_page zero_page ≡ replicate 64 zero_line
 lines_of_zeros =
     sym (tabulate-by_index [] (λ i. take 64 (drop (64 * i) zero_page)) 64 (replicate 64 zero_line) (length-replicate 64 zero_line)
     (λ k lt. get-replicate 64 k zero_line [] lt ∙ sym (ap (take 64) (drop-replicate (64 * k) 4096 0) ∙ take-replicate 64 (4096 - 64 * k) 0 (omega arith))))
@@ -74,16 +74,15 @@ zero_page_stays image page inside zeros =
     parts_before image page inside
     ∙ sym (with_parts (tabulate f (64 * page)) (replicate 64 zero_line) back (replicate 64 zero_line) page (length-tabulate f (64 * page)) (length-replicate 64 zero_line))
     ∙ ap (λ l. with_page l page (replicate 64 zero_line)) (sym (parts_before image page inside))
-    ∙ ap (λ l. with_page (lines_before image page) page l) (sym (ap lines_of zeros ∙ lines_of_zeros))
+    ∙ ap (λ l. with_page (lines_before image page) page l) (sym (ap lines_of_page zeros ∙ lines_of_zeros))
     ∙ placed_page image page inside
 
 -- The store after the pages before one were placed.
-pub record PlacedFacts (image : Loaded) (codec : Codec) (frames page : ℕ) (s : Store) : Type 0 where
+pub record PlacedFacts (image : Loaded) (sizing : Sizing) (page : ℕ) (s : Store) : Type 0 where
   pub lines : s.lines ≡ lines_before image page
   pub count : length s.descriptors ≡ image.span.pages
   pub zeros : (other : ℕ) → page ≤ other → other < image.span.pages → HasZero s other
-  pub codec_is : s.codec ≡ codec
-  pub frames_are : length s.used ≡ frames
+  pub sizing_is : sizing_of s ≡ sizing
 
 some_zero : (n i : ℕ) → i < n → slice_get (replicate n Zero) i ≡ Some Zero
 some_zero zero i lt = absurd (omega arith)
@@ -93,52 +92,53 @@ some_zero (suc n) (suc i) lt = some_zero n i (omega arith)
 suc_is : (n : ℕ) → suc n ≡ n + 1
 suc_is n = omega arith
 
-pub placed_facts : (image : Loaded) (codec : Codec) (frames page : ℕ) (s : Store) → page ≤ image.span.pages → PlacedUpTo image codec frames page s → PlacedFacts image codec frames page s
-placed_facts image codec frames zero s within h =
+-- what sizes a store
+abbrev sizing_by : Codec → ℕ → Sizing
+sizing_by codec frames = record { codec = codec; frames = frames }
+
+pub placed_facts : (image : Loaded) (sizing : Sizing) (page : ℕ) (s : Store) → page ≤ image.span.pages → PlacedUpTo image sizing page s → PlacedFacts image sizing page s
+placed_facts image sizing zero s within h =
     let all : 64 * (image.span.pages - 0) ≡ 64 * image.span.pages = omega arith in
     rw h (record {
       lines = sym (ap (λ l. l ++ replicate (64 * (image.span.pages - 0)) zero_line) (tabulate-none (line_in image)) ∙ ap (λ n. replicate n zero_line) all);
       count = length-replicate image.span.pages Zero;
       zeros = λ other le lt. some_zero image.span.pages other lt;
-      codec_is = refl;
-      frames_are = length-replicate frames 0;
+      sizing_is = ap (λ n. sizing_by sizing.codec n) (length-replicate sizing.frames 0);
     })
-placed_facts image codec frames (suc page) s within (mid, before, inl (zeros, same)) =
-    let so = placed_facts image codec frames page mid (omega arith) before in
+placed_facts image sizing (suc page) s within (mid, before, inl (zeros, same)) =
+    let so = placed_facts image sizing page mid (omega arith) before in
     rw (same, suc_is page) (record {
       lines = so.lines ∙ zero_page_stays image page (omega arith) zeros;
       count = so.count;
       zeros = λ other le lt. so.zeros other (omega arith) lt;
-      codec_is = so.codec_is;
-      frames_are = so.frames_are;
+      sizing_is = so.sizing_is;
     })
-placed_facts image codec frames (suc page) s within (mid, before, inr (some, places)) =
-    let so = placed_facts image codec frames page mid (omega arith) before in
+placed_facts image sizing (suc page) s within (mid, before, inr (some, places)) =
+    let so = placed_facts image sizing page mid (omega arith) before in
     rw (suc_is page) (record {
-      lines = places.lines_are ∙ ap (λ l. with_page l page (lines_of (page_of image.span image.file page))) so.lines ∙ placed_page image page (omega arith);
+      lines = places.lines_are ∙ ap (λ l. with_page l page (lines_of_page (page_of image.span image.file page))) so.lines ∙ placed_page image page (omega arith);
       count = places.pages_stay ∙ so.count;
       zeros = λ other le lt. let apart : other ≢ page = λ e. omega (arith, e) in
-          ap (λ d. slice_get d other) places.settles.descriptors_are ∙ get-set_other mid.descriptors page other places.settles.desc apart ∙ so.zeros other (omega arith) lt;
-      codec_is = places.codec_is ∙ so.codec_is;
-      frames_are = places.frames_stay ∙ so.frames_are;
+          ap (λ d. slice_get d other) places.comes.descriptors_are ∙ get-set_other mid.descriptors page other places.comes.desc apart ∙ so.zeros other (omega arith) lt;
+      sizing_is = places.sizing_stays ∙ so.sizing_is;
     })
 
 -- all pages were placed
-pub placed_all : (image : Loaded) (codec : Codec) (frames : ℕ) (s : Store) → PlacedUpTo image codec frames image.span.pages s → s.lines ≡ tabulate (line_in image) (64 * image.span.pages)
-placed_all image codec frames s h =
+pub placed_all : (image : Loaded) (sizing : Sizing) (s : Store) → PlacedUpTo image sizing image.span.pages s → s.lines ≡ tabulate (line_in image) (64 * image.span.pages)
+placed_all image sizing s h =
     let none : 64 * (image.span.pages - image.span.pages) ≡ 0 = omega arith in
-    (placed_facts image codec frames image.span.pages s (omega arith) h).lines ∙ ap (λ n. tabulate (line_in image) (64 * image.span.pages) ++ replicate n zero_line) none ∙ append-nil (tabulate (line_in image) (64 * image.span.pages))
+    (placed_facts image sizing image.span.pages s (omega arith) h).lines ∙ ap (λ n. tabulate (line_in image) (64 * image.span.pages) ++ replicate n zero_line) none ∙ append-nil (tabulate (line_in image) (64 * image.span.pages))
 
-placed_size : (image : Loaded) (codec : Codec) (frames page : ℕ) (s : Store) → page ≤ image.span.pages → PlacedUpTo image codec frames page s → length s.lines ≡ 64 * image.span.pages
-placed_size image codec frames page s within h =
+placed_size : (image : Loaded) (sizing : Sizing) (page : ℕ) (s : Store) → page ≤ image.span.pages → PlacedUpTo image sizing page s → length s.lines ≡ 64 * image.span.pages
+placed_size image sizing page s within h =
     let front = tabulate (line_in image) (64 * page) in
     let back = replicate (64 * (image.span.pages - page)) zero_line in
-    let lines : length s.lines ≡ length (front ++ back) = ap length (placed_facts image codec frames page s within h).lines in
+    let lines : length s.lines ≡ length (front ++ back) = ap length (placed_facts image sizing page s within h).lines in
     omega (arith, lines, length-append front back, length-tabulate (line_in image) (64 * page), length-replicate (64 * (image.span.pages - page)) zero_line)
 
 -- the lines stay as many
 pub placed_lines : (image : Loaded) (pages page : ℕ) (before s : Store) → AwaitsImage image pages before → page ≤ image.span.pages
-    → PlacedUpTo image before.codec (length before.used) page s → length s.lines ≡ length before.lines
+    → PlacedUpTo image (sizing_of before) page s → length s.lines ≡ length before.lines
 placed_lines image pages page before s awaits within h =
-    let none : PlacedUpTo image before.codec (length before.used) 0 before = rw awaits.same awaits.empty in
-    placed_size image before.codec (length before.used) page s within h ∙ sym (placed_size image before.codec (length before.used) 0 before (omega arith) none)
+    let none : PlacedUpTo image (sizing_of before) 0 before = rw awaits.same awaits.empty in
+    placed_size image (sizing_of before) page s within h ∙ sym (placed_size image (sizing_of before) 0 before (omega arith) none)

@@ -1,121 +1,160 @@
--- A run, beat by beat.
-use Rattle.std.proofs.Common.{◌≡◌, ◌<◌, ◌≤◌, ◌+◌, ◌%◌, ℕ, suc, true, false, List, length, slice_get, Some, None, refl, ◌∙◌, ap, subst, sym, arith}
-use Rattle.std.proofs.Math.Nat.{suc-mod}
+-- A run of the machine, beat by beat.
+use Rattle.std.proofs.Common.{◌≡◌, ◌≤◌, ◌∙◌, ℕ, true, false, cond, List, Option, Some, None, refl, ap, subst, sym, inl, inr}
 use Rattle.hier_types.specs.declared.beats.Beat.{Beat}
 use Rattle.hier_types.specs.declared.beats.Beat.TheVariants.{Hart, Mover, Cleaner}
+use Rattle.hier_types.specs.Beats.{is_cleaner, is_mover}
 use Rattle.hier_types.specs.Causes.{raised}
-use Rattle.hier_types.specs.Span.{Span}
-use Rattle.sys_shim.specs.Streams.{AreUntouched, FaultsStay, Streams}
+use Rattle.hier_types.specs.Streams.{FaultsStay, Streams, at_first}
+use Rattle.hier_types.proofs.StreamLemmas.{faults_first}
+use Rattle.beat_runs.specs.Points.{Runs, point, retired_by}
+use Rattle.beat_runs.proofs.PointLemmas.{run_as, run_faults, run_holds, run_turns}
+use Rattle.beat_runs.proofs.StandLemmas.{free_lt, used_le}
+use Rattle.page_store.specs.Store.{Sizing, sizing_of}
+use Rattle.rv_core.specs.Code.{Code}
 use Rattle.rv_guest.specs.declared.ends.MachineEnd.{MachineEnd}
-use Rattle.rv_guest.specs.declared.ends.MachineEnd.TheVariants.{Exit, Trap, Budget, Space, InFault, OutFault}
-use Rattle.rv_guest.specs.Beat.{DoesBeat}
-use Rattle.rv_guest.proofs.RunLemmas as lemmas
-use Rattle.rv_guest.proofs.RunLemmas.{Meets, over}
-use Rattle.hier_machine.specs.Beats.{Beats, HartBeats, Stays}
-use Rattle.hier_machine.specs.Runs.{IsBeat, LastBeat, Passed, Runs}
-use Rattle.hier_machine.specs.State.{State}
-use Rattle.hier_machine.proofs.TurnLemmas.{passed_turns}
-
--- From its start a run has come to the state now, by so many beats.
-pub record RunsSoFar (start now : State) (count : ℕ) (streams : Streams) : Type 0 where
-  pub runs : lemmas.RunsSoFar start.memory.span start.budget start.guest now.guest streams
-  pub passed : Passed start count now
-  pub stays : Stays start now
-  pub running : now.ended ≡ false
+use Rattle.rv_guest.specs.declared.ends.MachineEnd.TheVariants.{Budget}
+use Rattle.rv_guest.specs.Beside.{guest_beside}
+use Rattle.rv_guest.specs.FollowsFlat.{DoesGuest, FollowsFlat}
+use Rattle.rv_guest.specs.Steps.{DoesBeat}
+use Rattle.rv_guest.proofs.FollowsLemmas.{Carries, follows}
+use Rattle.hier_machine.specs.Beats.{Beats, KeepsSettings, TurnsStay}
+use Rattle.hier_machine.specs.Lists.{ShowsBytes, lists_of}
+use Rattle.hier_machine.specs.Memory.{store_of, with_second}
+use Rattle.hier_machine.specs.Runs.{CountsTurns, MakesBeat, RunsBeatByBeat, RunsMachine, stands_at}
+use Rattle.hier_machine.specs.State.{MachineState, code_of_machine}
 
 -- what stays over two stretches stays over both
-pub stays_join : (a b c : State) → Stays a b → Stays b c → Stays a c
-stays_join a b c h k = record { span = k.span ∙ h.span; budget = k.budget ∙ h.budget; beats = k.beats ∙ h.beats }
+pub settings_join : (a b c : MachineState) → KeepsSettings a b → KeepsSettings b c → KeepsSettings a c
+settings_join a b c h k = record { span = k.span ∙ h.span; code = k.code ∙ h.code; sizing = k.sizing ∙ h.sizing; budget = k.budget ∙ h.budget; beats = k.beats ∙ h.beats }
 
--- a run begins
-pub runs_none : (start : State) (s : Streams) → AreUntouched s → FaultsStay s → start.ended ≡ false → start.guest.retired ≤ start.budget → RunsSoFar start start 0 s
-runs_none start s quiet faults running within = record {
-  runs = lemmas.runs_none start.memory.span start.budget start.guest s quiet faults within;
-  passed = refl;
-  stays = record { span = refl; budget = refl; beats = refl };
-  running = running;
-}
+pub settings_same : (a : MachineState) → KeepsSettings a a
+settings_same a = record { span = refl; code = refl; sizing = refl; budget = refl; beats = refl }
 
--- the next beat is made before the budget is used up
-below : (start a : State) → Stays start a → a.guest.retired < a.budget → a.guest.retired < start.budget
-below start a stays lt = subst (λ n. a.guest.retired < n) stays.budget lt
-
-passed_more : (start a b : State) (count : ℕ) (beat : Beat) (second : Streams) → Passed start count a → IsBeat start.beats count beat → Beats beat a None b second → Passed start (suc count) b
-passed_more start a b count beat second passed is did = (a, beat, second, passed, is, did)
-
--- a turn of the mover or the cleaner, which changes nothing but these counts
-abbrev pub turned : State → ℕ → ℕ → State
+-- a turn of the mover or the cleaner changes nothing but these counts
+abbrev pub turned : MachineState → ℕ → ℕ → MachineState
 turned s mover cleaner = record s { mover_turns = mover; cleaner_turns = cleaner }
 
-quiet_beat : (start a b : State) (count : ℕ) (beat : Beat) (first second : Streams) (mover cleaner : ℕ) → RunsSoFar start a count first → Meets first second → FaultsStay second → IsBeat start.beats count beat → Beats beat a None b second → b ≡ turned a mover cleaner → AreUntouched second → RunsSoFar start b (suc count) (over first second)
-quiet_beat start a b count beat first second mover cleaner so meets faults is did same quiet = record {
-  runs = lemmas.runs_quiet start.memory.span start.budget start.guest a.guest b.guest first second so.runs meets faults (ap (λ (s : State). s.guest) same) quiet;
-  passed = passed_more start a b count beat second so.passed is did;
-  stays = stays_join start a b so.stays (rw same (record { span = refl; budget = refl; beats = refl }));
-  running = ap (λ (s : State). s.ended) same ∙ so.running;
-}
+turned_is : (old new : MachineState) (mover cleaner : ℕ) → new.memory.below ≡ old.memory.below → new ≡ record old { memory = with_second old.memory new.memory.below; mover_turns = mover; cleaner_turns = cleaner } → new ≡ turned old mover cleaner
+turned_is old new mover cleaner same is = is ∙ ap (λ below. record old { memory = with_second old.memory below; mover_turns = mover; cleaner_turns = cleaner }) same
 
--- a beat after which the run goes on
-pub runs_on : (beat : Beat) (start a b : State) (count : ℕ) (first second : Streams) → RunsSoFar start a count first → Meets first second → a.guest.retired < a.budget → FaultsStay second → IsBeat start.beats count beat → Beats beat a None b second → RunsSoFar start b (suc count) (over first second)
-runs_on Hart start a b count first second so meets lt faults is h = record {
-  runs = lemmas.runs_on start.memory.span start.budget start.guest a.guest b.guest first second so.runs meets (below start a so.stays lt) faults (subst (λ (s : Span). DoesBeat s a.guest None b.guest second) so.stays.span h.does);
-  passed = passed_more start a b count Hart second so.passed is h;
-  stays = stays_join start a b so.stays h.stays;
-  running = h.ended;
-}
-runs_on Mover start a b count first second so meets lt faults is h = quiet_beat start a b count Mover first second (raised a.mover_turns) a.cleaner_turns so meets faults is h h.1 h.2
-runs_on Cleaner start a b count first second so meets lt faults is h = quiet_beat start a b count Cleaner first second a.mover_turns (raised a.cleaner_turns) so meets faults is h h.1 h.2
+-- the state after a beat of the mover and of the cleaner
+pub mover_is : (old new : MachineState) (result : Option MachineEnd) (streams : Streams) → Beats Mover old result new streams → new ≡ turned old (raised old.mover_turns) old.cleaner_turns
+mover_is old new result streams h = turned_is old new (raised old.mover_turns) old.cleaner_turns h.turn h.rest
 
--- the last beat, where the budget was not used up
-last_beat : (start : State) (count : ℕ) (last : State) (end : MachineEnd) (new : State) (beat : Beat) (streams : Streams) → IsBeat start.beats count beat → Beats beat last (Some end) new streams → HartBeats last (Some end) new streams → LastBeat start count last end new
-last_beat start count last (Exit status) new beat streams is did hart = (beat, streams, is, did)
-last_beat start count last (Trap cause pc value) new beat streams is did hart = (beat, streams, is, did)
-last_beat start count last Budget new beat streams is did hart = absurd hart.does
-last_beat start count last (Space refusal) new beat streams is did hart = (beat, streams, is, did)
-last_beat start count last InFault new beat streams is did hart = (beat, streams, is, did)
-last_beat start count last OutFault new beat streams is did hart = (beat, streams, is, did)
+pub cleaner_is : (old new : MachineState) (result : Option MachineEnd) (streams : Streams) → Beats Cleaner old result new streams → new ≡ turned old old.mover_turns (raised old.cleaner_turns)
+cleaner_is old new result streams h = turned_is old new old.mover_turns (raised old.cleaner_turns) h.turn h.rest
 
--- a beat that ends the run
-pub runs_end : (beat : Beat) (start a b : State) (count : ℕ) (end : MachineEnd) (first second : Streams) → RunsSoFar start a count first → Meets first second → a.guest.retired < a.budget → IsBeat start.beats count beat → Beats beat a (Some end) b second → Runs start end b (over first second)
-runs_end Hart start a b count end first second so meets lt is h = record {
-  runs = lemmas.runs_end start.memory.span start.budget start.guest a.guest b.guest end first second so.runs meets (below start a so.stays lt) (subst (λ (s : Span). DoesBeat s a.guest (Some end) b.guest second) so.stays.span h.does);
-  beats = record { count = count; last = a; passed = so.passed; ends = last_beat start count a end b Hart second is h h };
-  turns = record { mover = h.turns.mover ∙ (passed_turns start count a so.passed).mover; cleaner = h.turns.cleaner ∙ (passed_turns start count a so.passed).cleaner };
-  stays = stays_join start a b so.stays h.stays;
-  over = h.ended;
-}
-runs_end Mover start a b count end first second so meets lt is h = absurd (let no = h.0 in cc)
-runs_end Cleaner start a b count end first second so meets lt is h = absurd (let no = h.0 in cc)
+-- no beat changes the settings
+pub keeps_settings : (beat : Beat) (old new : MachineState) (result : Option MachineEnd) (streams : Streams) → Beats beat old result new streams → KeepsSettings old new
+keeps_settings Hart old new result streams h = h.stays
+keeps_settings Mover old new result streams h = subst (KeepsSettings old) (sym (mover_is old new result streams h)) (record { span = refl; code = refl; sizing = refl; budget = refl; beats = refl })
+keeps_settings Cleaner old new result streams h = subst (KeepsSettings old) (sym (cleaner_is old new result streams h)) (record { span = refl; code = refl; sizing = refl; budget = refl; beats = refl })
 
--- a machine that has ended, and is otherwise as it was
-abbrev pub ended : State → State
-ended m = record m { ended = true }
+-- a beat that ends nothing leaves the machine running, and is counted where it is the hart's
+pub goes_on : (beat : Beat) (old new : MachineState) (streams : Streams) → old.ended ≡ false → Beats beat old None new streams → (new.ended ≡ false) × (new.guest.retired ≡ retired_by beat old.guest.retired)
+goes_on Hart old new streams running h = (h.ended, h.does.retired)
+goes_on Mover old new streams running h = let is = mover_is old new None streams h in (ap (λ (s : MachineState). s.ended) is ∙ running, ap (λ (s : MachineState). s.guest.retired) is)
+goes_on Cleaner old new streams running h = let is = cleaner_is old new None streams h in (ap (λ (s : MachineState). s.ended) is ∙ running, ap (λ (s : MachineState). s.guest.retired) is)
 
--- the budget is used up
-pub runs_budget : (start a : State) (count : ℕ) (s : Streams) → RunsSoFar start a count s → a.budget ≤ a.guest.retired → Runs start Budget (ended a) s
-runs_budget start a count s so used = record {
-  runs = lemmas.runs_budget start.memory.span start.budget start.guest a.guest s so.runs (subst (λ n. n ≤ a.guest.retired) so.stays.budget used);
-  beats = record { count = count; last = a; passed = so.passed; ends = refl };
-  turns = record { mover = (passed_turns start count a so.passed).mover; cleaner = (passed_turns start count a so.passed).cleaner };
-  stays = record { span = so.stays.span; budget = so.stays.budget; beats = so.stays.beats };
-  over = refl;
-}
+-- a run that ends before a beat has used up the budget, and ends the machine
+pub stop_is : (budget : ℕ) (a b : MachineState) (end : MachineEnd) → stands_at budget a ≡ Some (end, b) → (end ≡ Budget) × (b ≡ record a { ended = true }) × (budget ≤ a.guest.retired)
+stop_is budget a b end stop =
+    let so = used_le a.guest.retired budget (Budget, record a { ended = true }) (end, b) stop in
+    (ap (λ (p : MachineEnd × MachineState). p.0) so.0, ap (λ (p : MachineEnd × MachineState). p.1) so.0, so.1)
 
--- the place of the next beat in the word
-pub next_place : (place count size : ℕ) → place ≡ count % size → (place + 1) % size ≡ suc count % size
-next_place place count size e =
-    let one : place + 1 ≡ suc place = omega arith in
-    ap (λ n. n % size) one ∙ ap (λ n. suc n % size) e ∙ sym (suc-mod count size)
+-- the turns of a beat
+pub mover_on : (beat : Beat) (a b : MachineState) (s : Streams) → Beats beat a None b s → b.mover_turns ≡ cond (is_mover beat) (raised a.mover_turns) a.mover_turns
+mover_on Hart a b s h = h.turns.mover
+mover_on Mover a b s h = ap (λ (t : MachineState). t.mover_turns) h.rest
+mover_on Cleaner a b s h = ap (λ (t : MachineState). t.mover_turns) h.rest
 
--- the beat at the place is the next one of the word
-pub beat_is : {start s now : State} {place size : ℕ} {beat : Beat} (count : ℕ) → Stays start now → s ≡ now → place ≡ count % size → size ≡ length start.beats → slice_get s.beats place ≡ Some beat → IsBeat start.beats count beat
-beat_is {start} {s} {now} {place} {size} count stays same at len here =
-    ap (λ n. slice_get start.beats n) (sym (at ∙ ap (λ n. count % n) len))
-    ∙ ap (λ (l : List Beat). slice_get l place) (sym (ap (λ (t : State). t.beats) same ∙ stays.beats)) ∙ here
+pub cleaner_on : (beat : Beat) (a b : MachineState) (s : Streams) → Beats beat a None b s → b.cleaner_turns ≡ cond (is_cleaner beat) (raised a.cleaner_turns) a.cleaner_turns
+cleaner_on Hart a b s h = h.turns.cleaner
+cleaner_on Mover a b s h = ap (λ (t : MachineState). t.cleaner_turns) h.rest
+cleaner_on Cleaner a b s h = ap (λ (t : MachineState). t.cleaner_turns) h.rest
 
--- the test of the budget, by the machine's state
-pub before_budget : {s t : State} {budget : ℕ} → s ≡ t → budget ≡ t.budget → s.guest.retired < budget → t.guest.retired < t.budget
-before_budget {s} {t} {budget} same is lt = subst (λ n. t.guest.retired < n) is (subst (λ (u : State). u.guest.retired < budget) same lt)
+-- a beat that ends a run is the hart's
+turns_end : (beat : Beat) (a b : MachineState) (end : MachineEnd) (s : Streams) → Beats beat a (Some end) b s → TurnsStay a b
+turns_end Hart a b end s h = h.turns
+turns_end Mover a b end s h = absurd (let no = h.none in cc)
+turns_end Cleaner a b end s h = absurd (let no = h.none in cc)
 
-pub after_budget : {s t : State} {budget : ℕ} → s ≡ t → budget ≡ t.budget → budget ≤ s.guest.retired → t.budget ≤ t.guest.retired
-after_budget {s} {t} {budget} same is le = subst (λ n. n ≤ t.guest.retired) is (subst (λ (u : State). budget ≤ u.guest.retired) same le)
+turns_stop : (budget : ℕ) (a b : MachineState) (end : MachineEnd) → stands_at budget a ≡ Some (end, b) → TurnsStay a b
+turns_stop budget a b end stop =
+    let so = (stop_is budget a b end stop).1 in
+    record { mover = ap (λ (s : MachineState). s.mover_turns) so; cleaner = ap (λ (s : MachineState). s.cleaner_turns) so }
+
+module _ (sizing : Sizing) where
+  -- the machine carries its guest
+  holds : (code : Code) (beat : Beat) (a b : MachineState) (s : Streams) → code_of_machine a ≡ code → MakesBeat sizing beat a None b s → code_of_machine b ≡ code
+  holds code beat a b s is h = (keeps_settings beat a b None s h.machine).code ∙ is
+
+  does_guest : (code : Code) (beat : Beat) (a b : MachineState) (result : Option MachineEnd) (s : Streams) → code_of_machine a ≡ code → MakesBeat sizing beat a result b s → DoesGuest (guest_beside code) beat a.guest result b.guest s
+  does_guest code Hart a b result s is h = subst (λ (c : Code). DoesBeat (guest_beside c) a.guest result b.guest s) is h.machine.does
+  does_guest code Mover a b result s is h = record { none = h.machine.none; same = ap (λ (t : MachineState). t.guest) h.machine.rest; quiet = h.machine.quiet }
+  does_guest code Cleaner a b result s is h = record { none = h.machine.none; same = ap (λ (t : MachineState). t.guest) h.machine.rest; quiet = h.machine.quiet }
+
+  pub carries : (code : Code) → Carries (guest_beside code) (λ (s : MachineState). s.guest) (λ (s : MachineState). code_of_machine s ≡ code) stands_at (MakesBeat sizing)
+  carries code = record {
+    holds = holds code;
+    does = does_guest code;
+    free = λ budget a free. free_lt a.guest.retired budget (Budget, record a { ended = true }) free;
+    used = λ budget a b end stop. let so = stop_is budget a b end stop in (so.0, ap (λ (s : MachineState). s.guest) so.1, so.2);
+  }
+
+  -- at the end of a run
+  module _ (old : MachineState) (end : MachineEnd) (new : MachineState) (streams : Streams) (r : Runs stands_at (MakesBeat sizing) old.beats old.budget old end new streams) where
+    pub run_counts : CountsTurns old.beats old r.count new
+    run_counts = record {
+      mover = run_turns stands_at (MakesBeat sizing) old.beats old.budget is_mover (λ (t : MachineState). t.mover_turns) (λ beat a b s h. mover_on beat a b s h.machine) (λ beat a b end' s h. (turns_end beat a b end' s h.machine).mover)
+          (λ a b end' stop. (turns_stop old.budget a b end' stop).mover) (point old (at_first streams)) end (point new streams) r;
+      cleaner = run_turns stands_at (MakesBeat sizing) old.beats old.budget is_cleaner (λ (t : MachineState). t.cleaner_turns) (λ beat a b s h. cleaner_on beat a b s h.machine) (λ beat a b end' s h. (turns_end beat a b end' s h.machine).cleaner)
+          (λ a b end' stop. (turns_stop old.budget a b end' stop).cleaner) (point old (at_first streams)) end (point new streams) r;
+    }
+
+    pub run_stays : KeepsSettings old new
+    run_stays = run_holds stands_at (MakesBeat sizing) old.beats old.budget (KeepsSettings old) (λ beat a b result s so h. settings_join old a b so (keeps_settings beat a b result s h.machine))
+        (λ a b end' so stop. subst (KeepsSettings old) (sym (stop_is old.budget a b end' stop).1) (record { span = so.span; code = so.code; sizing = so.sizing; budget = so.budget; beats = so.beats }))
+        (point old (at_first streams)) end (point new streams) (settings_same old) r
+
+    pub run_over : new.ended ≡ true
+    run_over = elim r.ends [
+      | inl by ↦ over_beat by.beat r.before.state by.streams by.does
+      | inr by ↦ ap (λ (s : MachineState). s.ended) (stop_is old.budget r.before.state new end by.stands_so).1
+    ]
+      where
+        over_beat : (beat : Beat) (a : MachineState) (s : Streams) → MakesBeat sizing beat a (Some end) new s → new.ended ≡ true
+        over_beat Hart a s h = h.machine.ended
+        over_beat Mover a s h = absurd (let no = h.machine.none in cc)
+        over_beat Cleaner a s h = absurd (let no = h.machine.none in cc)
+
+-- what each beat says of its own store's size, it says of the first one's
+pub sized_run : (old : MachineState) (end : MachineEnd) (new : MachineState) (streams : Streams)
+    → Runs stands_at (λ beat a result b s. MakesBeat (sizing_of (store_of a.memory)) beat a result b s) old.beats old.budget old end new streams → RunsBeatByBeat old end new streams
+sized_run old end new streams r =
+    let sizing = sizing_of (store_of old.memory) in
+    run_as stands_at (λ beat a result b s. MakesBeat (sizing_of (store_of a.memory)) beat a result b s) (MakesBeat sizing) old.beats old.budget (λ (s : MachineState). sizing_of (store_of s.memory) ≡ sizing)
+    (λ beat a b s is h. (keeps_settings beat a b None s h.machine).sizing ∙ is)
+    (λ beat a b result s is h. subst (λ (k : Sizing). MakesBeat k beat a result b s) is h) (point old (at_first streams)) end (point new streams) refl r
+
+-- the whole of it, of a copy of the word and of the budget
+pub machine_run : (old : MachineState) (end : MachineEnd) (new : MachineState) (streams : Streams) (word : List Beat) (budget : ℕ) → ShowsBytes (lists_of old) → word ≡ old.beats → budget ≡ old.budget
+    → Runs stands_at (λ beat a result b s. MakesBeat (sizing_of (store_of a.memory)) beat a result b s) word budget old end new streams → RunsMachine old end new streams
+machine_run old end new streams word budget shows same_word same_budget own =
+    let sizing = sizing_of (store_of old.memory) in
+    let sized = λ (beat : Beat) (a : MachineState) (result : Option MachineEnd) (b : MachineState) (s : Streams). MakesBeat (sizing_of (store_of a.memory)) beat a result b s in
+    let r = sized_run old end new streams (subst (λ w. Runs stands_at sized w old.budget old end new streams) same_word (subst (λ n. Runs stands_at sized word n old end new streams) same_budget own)) in
+    record { shows = shows; beats = r; turns = run_counts sizing old end new streams r; stays = run_stays sizing old end new streams r; over = run_over sizing old end new streams r }
+
+-- no count of faults falls in it
+pub machine_faults : (old : MachineState) (end : MachineEnd) (new : MachineState) (streams : Streams) → RunsMachine old end new streams → FaultsStay streams
+machine_faults old end new streams h =
+    run_faults stands_at (MakesBeat (sizing_of (store_of old.memory))) old.beats old.budget (point old (at_first streams)) end (point new streams) (faults_first streams) h.beats
+
+-- and beside the flat run
+pub machine_follows : (old : MachineState) (end : MachineEnd) (new : MachineState) (streams : Streams) → old.guest.retired ≤ old.budget → RunsMachine old end new streams
+    → FollowsFlat (guest_beside (code_of_machine old)) old.budget old.guest end new.guest streams
+machine_follows old end new streams within h =
+    let code = code_of_machine old in
+    let sizing = sizing_of (store_of old.memory) in
+    follows (guest_beside code) (λ (s : MachineState). s.guest) (λ (s : MachineState). code_of_machine s ≡ code) stands_at (MakesBeat sizing) (carries sizing code) old.beats old.budget old end new streams refl within h.beats

@@ -1,11 +1,15 @@
 -- The end of a run that was refused a block.
-use Rattle.std.specs.Prelude.{◌≡◌, ℕ, ◌*◌, List, [], ◌∷◌, length}
+use Rattle.std.specs.Prelude.{◌≡◌, ℕ, ◌*◌, List, [], ◌∷◌, Some, length}
+use Rattle.hier_types.specs.Span.{Span}
 use Rattle.hier_types.specs.declared.faults.NoSpace.{NoSpace}
 use Rattle.buddy_frames.specs.Units.{IsCount, IsFreeBlock, place_at}
+use Rattle.page_store.specs.Store.{Store}
+use Rattle.rv_guest.specs.declared.ends.MachineEnd.{MachineEnd}
+use Rattle.rv_guest.specs.declared.ends.MachineEnd.TheVariants as machine
 use Rattle.run_report.specs.declared.end.End.{End}
 use Rattle.run_report.specs.declared.end.End.TheVariants.{Space}
 use Rattle.run_report.specs.Texts.{page_address}
-use Rattle.hier_machine.specs.Memory.{Memory, store_of}
+use Rattle.hier_machine.specs.Ends.{told_as}
 
 -- so many blocks of the order are free
 abbrev pub IsFreeCount : List ℕ → ℕ → ℕ → Type 0
@@ -17,5 +21,10 @@ AreFreeCounts used (first ∷ second ∷ third ∷ fourth ∷ []) = IsFreeCount 
 AreFreeCounts used counts = ⊥
 
 -- the end tells the page's address, the order, and the free blocks of the store
-abbrev pub IsSpaceEnd : Memory → NoSpace → End → Type 0
-IsSpaceEnd memory refusal end = (free : List ℕ) × (end ≡ Space (page_address memory.span refusal.page.0) refusal.order free) × AreFreeCounts (store_of memory).used free
+abbrev pub IsSpaceEnd : Span → Store → NoSpace → End → Type 0
+IsSpaceEnd span store refusal end = (free : List ℕ) × (end ≡ Space (page_address span refusal.page.0) refusal.order free) × AreFreeCounts store.used free
+
+-- the end of a machine's run as the program's: of a refused block it tells what the store then has
+abbrev pub IsEndOf : Span → Store → MachineEnd → End → Type 0
+IsEndOf span store (machine.Space refusal) end = IsSpaceEnd span store refusal end
+IsEndOf span store own end = told_as own ≡ Some end

@@ -5,7 +5,7 @@ ghost use Rattle.page_store.specs.Store.{fresh};
 ghost use Rattle.recency.specs.Levels.{KeepsUnder};
 ghost use Rattle.hier_machine.specs.Memory.{store_of};
 ghost use Rattle.hier_machine.specs.Placed.{NoRoomFor, PlacedUpTo};
-ghost use Rattle.hier_machine.specs.Start.{start_memory};
+ghost use Rattle.hier_machine.specs.Start.{asked_sizing, start_memory};
 
 use crate::opening::place_image;
 use elf_image::Image;
@@ -16,7 +16,7 @@ use page_store::Pages;
 
 /// An errand to the layer under a second level.
 #[derive(Drop)]
-pub(crate) struct Through<E> {
+pub struct Through<E> {
     pub errand: E,
 }
 
@@ -32,7 +32,7 @@ impl<B: Layer, E: Errand<B>> Errand<L2<B>> for Through<E> {
 
 /// Places the pages of an image.
 #[derive(Drop)]
-struct Placing<'a> {
+pub struct Placing<'a> {
     image: &'a Image,
     pages: u32,
     answer: Result<(), NoSpace>,
@@ -58,10 +58,10 @@ pub fn place_under(
 ) -> Result<(), NoSpace>
     requires same { image.now.span ≡ settings.now.geometry }
     requires rules { AreWithinRules settings.now }
-    requires empty { memory.old ≡ start_memory settings.now (fresh settings.now.codec settings.now.geometry.pages settings.now.frames) }
+    requires empty { memory.old ≡ start_memory settings.now (fresh (asked_sizing settings.now) settings.now.geometry.pages) }
     ensures memory { memory.new ≡ start_memory settings.now (store_of memory.new) }
-    ensures ok { OnOk result (PlacedUpTo image.now settings.now.codec settings.now.frames settings.now.geometry.pages (store_of memory.new)) }
-    ensures err { IfErr result (NoRoomFor image.now settings.now.codec settings.now.frames) }
+    ensures ok { OnOk result (PlacedUpTo image.now (asked_sizing settings.now) settings.now.geometry.pages (store_of memory.new)) }
+    ensures err { IfErr result (NoRoomFor image.now (asked_sizing settings.now)) }
 {
     let placing = Placing {
         image,
@@ -75,7 +75,7 @@ pub fn place_under(
 
 /// Writes the changed lines of the second level down to the pages.
 #[derive(Drop)]
-pub(crate) struct FlushSecond {
+pub struct FlushSecond {
     pub answer: Result<(), NoSpace>,
 }
 

@@ -1,25 +1,29 @@
 // The guest over its memory, beat by beat.
 ghost use Rattle.std.specs.Prelude.{◌≡◌, ◌*◌, ◌-◌, ◌^◌, ◌<◌, ◌≤◌, false, IfErr, IfOk, length, take, drop};
 ghost use Rattle.hier_types.specs.Settings.{AreWithinRules};
-ghost use Rattle.rv_guest.specs.State.{start_state};
-ghost use Rattle.sys_shim.specs.Streams.{FaultsStay, stream, streams};
+ghost use Rattle.hier_types.specs.Streams.{FaultsStay, went};
+ghost use Rattle.page_store.specs.Store.{sizing_of};
 ghost use Rattle.rv_core.specs.Accesses.{IsAccess};
+ghost use Rattle.rv_guest.specs.FollowsFlat.{FollowsFlat};
+ghost use Rattle.rv_guest.specs.Start.{start_state};
 ghost use Rattle.hier_machine.specs.Accesses.{AccessBeats};
 ghost use Rattle.hier_machine.specs.Beats.{Beats, HartBeats};
-ghost use Rattle.hier_machine.specs.Memory.{bytes_of, store_of};
+ghost use Rattle.hier_machine.specs.FileRuns.{RunsToReport};
+ghost use Rattle.hier_machine.specs.Lists.{ListsAccess, ListsBeats, ListsHart, lists_of};
+ghost use Rattle.hier_machine.specs.Memory.{guest_bytes, store_of};
 ghost use Rattle.hier_machine.specs.Placed.{IsOpenFault};
 ghost use Rattle.hier_machine.specs.Reports.{Reports, counts_of};
-ghost use Rattle.hier_machine.specs.Runs.{Runs};
-ghost use Rattle.hier_machine.specs.Settles.{SettlesMachine};
-ghost use Rattle.hier_machine.specs.Spaces.{AreFreeCounts, IsSpaceEnd};
-ghost use Rattle.hier_machine.specs.StackRun.{StackAccess, StackBeats, StackHart, StackRun, stack_of};
-ghost use Rattle.hier_machine.specs.StackSettles.{StackSettles};
-ghost use Rattle.hier_machine.specs.Start.{Starts, StartsEmpty, start_memory};
+ghost use Rattle.hier_machine.specs.Runs.{RunsAreOne, RunsMachine};
+ghost use Rattle.hier_machine.specs.Settles.{ListsSettle, SettlesMachine};
+ghost use Rattle.hier_machine.specs.Spaces.{AreFreeCounts, IsEndOf, IsSpaceEnd};
+ghost use Rattle.hier_machine.specs.Start.{Starts, StartsEmpty, asked_sizing, start_memory};
+ghost use Rattle.hier_machine.specs.State.{guest_of_machine};
 ghost use Rattle.run_report.specs.ReportLines.{HasBlocksIfDone};
 
-use crate::ends::OpenFault;
+use crate::ends::{OpenFault, end_of};
 use crate::errands::{FlushSecond, place_under};
 use crate::page_view::view_page;
+use beat_runs::{Runner, run};
 use elf_image::Image;
 use hier_types::{
     Access, Beat, BeatWord, Layer, NoMemory, NoSpace, PageCounts, PageNo, Port, Settings, Sink,
@@ -48,14 +52,14 @@ pub struct Machine {
 
 impl Model for Machine {
     ghost use Rattle.rv_guest.specs.State.{state_of};
-    ghost use Rattle.hier_machine.specs.Memory.{bytes_of};
-    ghost use Rattle.hier_machine.specs.State.{State};
+    ghost use Rattle.hier_machine.specs.Memory.{guest_bytes};
+    ghost use Rattle.hier_machine.specs.State.{MachineState};
 
-    ghost Value = { State };
+    ghost Value = { MachineState };
 
     ghost view = { λ m. record {
       memory = m.memory;
-      guest = state_of m.guest (bytes_of m.memory);
+      guest = state_of m.guest (guest_bytes m.memory);
       budget = m.budget;
       beats = m.beats;
       mover_turns = m.mover_turns;
@@ -71,7 +75,7 @@ impl Machine {
         requires same { image.now.span ≡ settings.now.geometry }
         requires rules { AreWithinRules settings.now }
         ensures ok { IfOk result (Starts settings.now image.now.file) }
-        ensures err { IfErr result (IsOpenFault image.now settings.now.codec settings.now.frames) }
+        ensures err { IfErr result (IsOpenFault image.now (asked_sizing settings.now)) }
     {
         let Ok(mut machine) = Machine::over_zeros(alloc, settings, image.entry(), image.end())
         else {
@@ -101,7 +105,7 @@ impl Machine {
     ) -> Result<Self, NoMemory>
         requires { AreWithinRules settings.now }
         ensures empty { IfOk result (StartsEmpty settings.now) }
-        ensures guest { IfOk result (λ machine. machine.guest ≡ start_state settings.now.geometry entry end (bytes_of machine.memory)) }
+        ensures guest { IfOk result (λ machine. machine.guest ≡ start_state settings.now.geometry entry end (guest_bytes machine.memory)) }
     {
         let beats = settings.beats.clone()?;
         let store = Pages::new(alloc, settings.geometry, settings.frames, settings.codec)?;
@@ -126,7 +130,7 @@ impl Machine {
 
     /// The end of a run that was refused a block: the page's address, the order, and the free blocks of each order.
     pub fn space(&self, refusal: NoSpace) -> End
-        ensures { IsSpaceEnd self.now.memory refusal result }
+        ensures { IsSpaceEnd self.now.memory.span (store_of self.now.memory) refusal result }
     {
         let free = free_counts(self.memory.below().below());
         End::space(self.memory.span(), refusal, free)
@@ -189,9 +193,9 @@ impl Machine {
     ) -> Option<MachineEnd>
         requires running { self.old.ended ≡ false }
         requires room { self.old.guest.retired < 2 ^ 64 - 1 }
-        ensures beats { Beats beat self.old result self.new (streams (stream (I.left input.old) (I.left input.new) (I.faults input.old) (I.faults input.new)) (stream (O.written out.old) (O.written out.new) (O.faults out.old) (O.faults out.new))) }
-        ensures stack { StackBeats (store_of self.old.memory).codec (length (store_of self.old.memory).used) beat (stack_of self.old) result (stack_of self.new) (streams (stream (I.left input.old) (I.left input.new) (I.faults input.old) (I.faults input.new)) (stream (O.written out.old) (O.written out.new) (O.faults out.old) (O.faults out.new))) }
-        ensures faults { FaultsStay (streams (stream (I.left input.old) (I.left input.new) (I.faults input.old) (I.faults input.new)) (stream (O.written out.old) (O.written out.new) (O.faults out.old) (O.faults out.new))) }
+        ensures beats { Beats beat self.old result self.new (went I.left I.faults O.written O.faults input.old input.new out.old out.new) }
+        ensures lists { ListsBeats (sizing_of (store_of self.old.memory)) beat (lists_of self.old) result (lists_of self.new) (went I.left I.faults O.written O.faults input.old input.new out.old out.new) }
+        ensures faults { FaultsStay (went I.left I.faults O.written O.faults input.old input.new out.old out.new) }
     {
         match beat {
             Beat::Hart => self.hart_beat(input, out),
@@ -212,7 +216,7 @@ impl Machine {
         requires access { IsAccess self.old.memory.span asked.now }
         requires room { self.old.guest.retired < 2 ^ 64 - 1 }
         ensures beats { AccessBeats self.old asked.now result self.new }
-        ensures stack { StackAccess (store_of self.old.memory).codec (length (store_of self.old.memory).used) (stack_of self.old) asked.now result (stack_of self.new) }
+        ensures lists { ListsAccess (sizing_of (store_of self.old.memory)) (lists_of self.old) asked.now result (lists_of self.new) }
     {
         let value = access(&mut self.memory, asked)?;
         self.guest.retired += 1;
@@ -223,7 +227,7 @@ impl Machine {
     /// to the store. It stops at the first one that is refused. No byte of the guest changes.
     pub fn settle(&mut self) -> Result<(), NoSpace>
         ensures settles { SettlesMachine self.old result self.new }
-        ensures stack { StackSettles (store_of self.old.memory).codec (length (store_of self.old.memory).used) (stack_of self.old) result (stack_of self.new) }
+        ensures lists { ListsSettle (sizing_of (store_of self.old.memory)) (lists_of self.old) result (lists_of self.new) }
     {
         if let Err(refusal) = self.memory.flush() {
             return Err(refusal);
@@ -253,40 +257,88 @@ impl Machine {
         }
     }
 
-    /// Makes the beats of the word from its first one on, again and again, until one ends the run or as many
-    /// instructions have retired as the budget allows, which is tested before each beat.
+    /// Makes the beats of the word from its first one on, over and over, until one ends the run or as many instructions
+    /// have retired as the budget allows, which is tested before each beat.
     pub fn run<I: Source, O: Sink>(&mut self, input: &mut I, out: &mut O) -> MachineEnd
         requires running { self.old.ended ≡ false }
         requires within { self.old.guest.retired ≤ self.old.budget }
-        ensures runs { Runs self.old result self.new (streams (stream (I.left input.old) (I.left input.new) (I.faults input.old) (I.faults input.new)) (stream (O.written out.old) (O.written out.new) (O.faults out.old) (O.faults out.new))) }
-        ensures stack { StackRun (store_of self.old.memory).codec (length (store_of self.old.memory).used) self.old.beats (stack_of self.old) result (stack_of self.new) }
-        ensures faults { FaultsStay (streams (stream (I.left input.old) (I.left input.new) (I.faults input.old) (I.faults input.new)) (stream (O.written out.old) (O.written out.new) (O.faults out.old) (O.faults out.new))) }
+        ensures runs { RunsMachine self.old result self.new (went I.left I.faults O.written O.faults input.old input.new out.old out.new) }
+        ensures follows { FollowsFlat (guest_of_machine self.old) self.old.budget self.old.guest result self.new.guest (went I.left I.faults O.written O.faults input.old input.new out.old out.new) }
+        ensures faults { FaultsStay (went I.left I.faults O.written O.faults input.old input.new out.old out.new) }
     {
+        let word = self.beats.clone().unwrap();
         let budget = self.budget;
-        let length = self.beats.len();
-        let mut place = 0;
-        while self.guest.retired < budget {
-            let beat = self.beats.beat_at(place);
-            if let Some(end) = self.beat(beat, input, out) {
-                return end;
-            }
-            place = (place + 1) % length;
+        run(self, &word, budget, input, out)
+    }
+
+    /// The program's end for a run's: of a refused block it tells the page, the order and what is free now.
+    pub fn told(&self, end: MachineEnd) -> End
+        ensures { IsEndOf self.now.memory.span (store_of self.now.memory) end result }
+    {
+        match end_of(end) {
+            Ok(end) => end,
+            Err(refusal) => self.space(refusal),
         }
-        self.ended = true;
-        MachineEnd::Budget
+    }
+
+    /// Runs to an end, settles and reports.
+    pub fn run_to_report<I: Source, O: Sink>(&mut self, input: &mut I, out: &mut O) -> Report
+        requires running { self.old.ended ≡ false }
+        requires within { self.old.guest.retired ≤ self.old.budget }
+        ensures runs { RunsToReport self.old (went I.left I.faults O.written O.faults input.old input.new out.old out.new) result self.new }
+        ensures blocks { HasBlocksIfDone result.settled }
+        ensures faults { FaultsStay (went I.left I.faults O.written O.faults input.old input.new out.old out.new) }
+    {
+        let end = self.run(input, out);
+        let told = self.told(end);
+        self.report(told)
     }
 
     /// One instruction.
     fn hart_beat<I: Source, O: Sink>(&mut self, input: &mut I, out: &mut O) -> Option<MachineEnd>
         requires running { self.old.ended ≡ false }
         requires room { self.old.guest.retired < 2 ^ 64 - 1 }
-        ensures beats { HartBeats self.old result self.new (streams (stream (I.left input.old) (I.left input.new) (I.faults input.old) (I.faults input.new)) (stream (O.written out.old) (O.written out.new) (O.faults out.old) (O.faults out.new))) }
-        ensures stack { StackHart (store_of self.old.memory).codec (length (store_of self.old.memory).used) (stack_of self.old) result (stack_of self.new) (streams (stream (I.left input.old) (I.left input.new) (I.faults input.old) (I.faults input.new)) (stream (O.written out.old) (O.written out.new) (O.faults out.old) (O.faults out.new))) }
-        ensures faults { FaultsStay (streams (stream (I.left input.old) (I.left input.new) (I.faults input.old) (I.faults input.new)) (stream (O.written out.old) (O.written out.new) (O.faults out.old) (O.faults out.new))) }
+        ensures beats { HartBeats self.old result self.new (went I.left I.faults O.written O.faults input.old input.new out.old out.new) }
+        ensures lists { ListsHart (sizing_of (store_of self.old.memory)) (lists_of self.old) result (lists_of self.new) (went I.left I.faults O.written O.faults input.old input.new out.old out.new) }
+        ensures faults { FaultsStay (went I.left I.faults O.written O.faults input.old input.new out.old out.new) }
     {
         let end = self.guest.beat(&mut self.memory, input, out);
         self.ended = end.is_some();
         end
+    }
+}
+
+impl Runner for Machine {
+    ghost use Rattle.hier_machine.specs.Memory.{store_of};
+    ghost use Rattle.hier_machine.specs.Runs.{MakesBeat, stands_at};
+
+    type End = MachineEnd;
+
+    ghost retired = { λ s. s.guest.retired };
+
+    ghost ready = { λ s. s.ended ≡ false };
+
+    ghost may = { λ s. (s.ended ≡ false) × (s.guest.retired < 2 ^ 64 - 1) };
+
+    ghost stands = { stands_at };
+
+    ghost does = { λ beat old result new streams. MakesBeat (sizing_of (store_of old.memory)) beat old result new streams };
+
+    fn stand(&mut self, budget: u64) -> Option<MachineEnd> {
+        if self.guest.retired < budget {
+            return None;
+        }
+        self.ended = true;
+        Some(MachineEnd::Budget)
+    }
+
+    fn beat<I: Source, O: Sink>(
+        &mut self,
+        beat: Beat,
+        input: &mut I,
+        out: &mut O,
+    ) -> Option<MachineEnd> {
+        Machine::beat(self, beat, input, out)
     }
 }
 
@@ -318,3 +370,9 @@ fn free_counts(store: &Pages) -> [u32; 4]
 {
     [store.free(0), store.free(1), store.free(2), store.free(3)]
 }
+
+/// Two runs from one state over the same told input that end alike, with as many instructions retired, leave one state,
+/// with all its counts.
+pub fn runs_are_one()
+    ensures { RunsAreOne }
+{}

@@ -3,6 +3,7 @@ use elf_image::read_image;
 use hier_types::{
     Access, Beat, BeatWord, BytesSource, Geometry, NoSpace, NullSink, PageNo, Settings,
 };
+use run_report::{End, Settled};
 use std::alloc::Global;
 use std::test::Fail;
 
@@ -55,14 +56,7 @@ fn opened(alloc: Global, program: &[u8], settings: &Settings) -> Result<Machine,
 {
     let mut file = Vec::new(alloc);
     file.extend_from_slice(program)?;
-    let image = read_image(alloc, file, settings.geometry)
-        .ok()
-        .ok_or("no program")?;
-    Ok(
-        Machine::open(alloc, settings, &image)
-            .ok()
-            .ok_or("no machine")?,
-    )
+    Ok(open_file(alloc, file, settings).ok().ok_or("no machine")?)
 }
 
 /// The program that counts, opened with these settings.
@@ -225,5 +219,62 @@ fn what_was_stored_settles_and_stays(rt: HostRuntime) -> Result<(), Fail> {
     let mut after = [7; 4096];
     machine.view_page(PageNo(1), &mut after);
     assert_eq!(rt; after, before);
+    Ok(())
+}
+
+/// Takes what may go to another thread.
+fn take_sendable<T: Send>(_value: &T) {}
+
+#[test]
+fn machines_may_go_to_other_threads(rt: HostRuntime) -> Result<(), Fail> {
+    let settings = sized(4, 4, &[Beat::Hart], 9)?;
+    let machine = counting(rt.alloc(), &settings)?;
+    take_sendable(&machine);
+    Ok(())
+}
+
+#[test]
+fn turns_are_those_before_the_used_up_budget(rt: HostRuntime) -> Result<(), Fail> {
+    let alloc = rt.alloc();
+    let (hart, mover, cleaner) = (Beat::Hart, Beat::Mover, Beat::Cleaner);
+    let late: &[Beat] = &[mover, hart];
+    let long: &[Beat] = &[hart, mover, mover, mover, cleaner];
+    for (word, budget, mover_turns, cleaner_turns) in [
+        (late, 0, 0, 0),
+        (long, 2, 3, 1),
+        (long, 1, 0, 0),
+    ] {
+        let settings = sized(4, 1, word, budget)?;
+        let mut machine = counting(alloc, &settings)?;
+        let mut input = BytesSource::new(Vec::new(alloc), Vec::new(alloc));
+        let report = machine.run_to_report(&mut input, &mut NullSink);
+        assert_eq!(rt; (report.end, report.retired), (End::Budget, budget));
+        assert_eq!(rt; report.counts.pages.mover_turns, mover_turns);
+        assert_eq!(rt; report.counts.cleaner_turns, cleaner_turns);
+        let Settled::Done(totals) = report.settled else {
+            return Err("not settled".into());
+        };
+        assert_eq!(rt; (totals.zero, totals.c512, totals.blocks), (3, 1, 512));
+    }
+    Ok(())
+}
+
+/// The program's page leaves a block of each order but the greatest.
+#[test]
+fn refusals_are_told_with_what_is_free(rt: HostRuntime) -> Result<(), Fail> {
+    let settings = sized(4, 1, &[Beat::Hart], 9)?;
+    let machine = counting(rt.alloc(), &settings)?;
+    let refusal = NoSpace {
+        page: PageNo(1),
+        order: 3,
+    };
+    assert_eq!(rt;
+        machine.told(MachineEnd::Space(refusal)),
+        End::Space {
+            at: 0x1_1000,
+            order: 3,
+            free: [1, 1, 1, 0]
+        }
+    );
     Ok(())
 }

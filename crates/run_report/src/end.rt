@@ -5,6 +5,7 @@ ghost use Rattle.run_report.specs.Texts.{page_address};
 
 use elf_image::ImageFault;
 use hier_types::{Geometry, NoSpace, PAGE_BYTES, PageNo, SettingName};
+use rv_core::Trap;
 use trace_reader::TraceFault;
 
 /// What is not built yet.
@@ -41,13 +42,8 @@ pub enum End {
     BadTrace {
         fault: TraceFault,
     },
-    /// An instruction trapped. Causes and values are those of `mcause` and `mtval` (RISC-V privileged manual).
-    Trap {
-        cause: u8,
-        /// The address of the instruction.
-        pc: u32,
-        value: u32,
-    },
+    /// An instruction trapped.
+    Trap(Trap),
     /// As many instructions retired, or accesses were made, as the budget allows.
     Budget,
     /// A page outgrew its block, and no free place holds one of the order that it wants.

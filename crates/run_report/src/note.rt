@@ -4,7 +4,7 @@ ghost use Rattle.std.specs.Io.KnownBytes.{Appends};
 ghost use Rattle.arrayvec.specs.ArrayString.{array_string_len};
 ghost use Rattle.hier_types.specs.Causes.{HasCause};
 ghost use Rattle.hier_types.specs.Outside.{AppendsFront};
-ghost use Rattle.run_report.specs.declared.end.End.TheVariants.{Exit, BadImage, BadTrace, Trap, Space, NoteFault};
+ghost use Rattle.run_report.specs.declared.end.End.TheVariants.{Exit, BadImage, BadTrace, Space, NoteFault};
 ghost use Rattle.run_report.specs.Texts as texts;
 
 use crate::end::End;
@@ -13,6 +13,7 @@ use crate::names::{kind_name, part_name, setting_name, trace_kind_name};
 use crate::text_line::TextLine;
 use elf_image::ImageFault;
 use hier_types::{Failed, Sink};
+use rv_core::Trap;
 use trace_reader::TraceFault;
 
 /// Writes how a run ended and, where a number is given, how many instructions retired. Each line is one write, and
@@ -69,7 +70,7 @@ pub(crate) fn put_end(line: &mut TextLine, end: &End)
         End::TooLong => line.word("file too long"),
         End::BadImage { fault } => put_image_fault(line, *fault),
         End::BadTrace { fault } => put_trace_fault(line, *fault),
-        End::Trap { cause, pc, value } => put_trap(line, *cause, *pc, *value),
+        End::Trap(trap) => put_trap(line, *trap),
         End::Budget => line.word("budget"),
         End::Space { at, order, free } => put_space(line, *at, *order, free),
         End::NoRoom { at, order } => put_refusal(line, "noroom ", *at, *order),
@@ -93,17 +94,17 @@ fn put_exit(line: &mut TextLine, status: u32)
     line.number(u64::from(status));
 }
 
-fn put_trap(line: &mut TextLine, cause: u8, pc: u32, value: u32)
+fn put_trap(line: &mut TextLine, trap: Trap)
     requires room { array_string_len line.old.text + 43 ≤ 192 }
-    ensures text { line.new.text.bytes ≡ line.old.text.bytes ++ texts.end_text (Trap cause pc value) }
+    ensures text { line.new.text.bytes ≡ line.old.text.bytes ++ texts.end_text (End.Trap trap) }
     ensures len { array_string_len line.new.text ≤ array_string_len line.old.text + 43 }
 {
     line.word("trap ");
-    line.number(u64::from(cause));
+    line.number(u64::from(trap.cause));
     line.word(" ");
-    line.address(pc);
+    line.address(trap.pc);
     line.word(" ");
-    line.address(value);
+    line.address(trap.value);
 }
 
 fn put_space(line: &mut TextLine, at: u32, order: u8, free: &[u32; 4])

@@ -1,5 +1,6 @@
 // Programs that run, over the memory hierarchy and over flat memory.
 use super::*;
+use rv_core::Trap;
 
 /// Reads at most 64 bytes, writes them, and exits with their number.
 const COPY_A_LINE: [u32; 10] = [
@@ -14,6 +15,11 @@ const COPY_A_LINE: [u32; 10] = [
     0x05d0_0893, // addi x17, x0, 93
     ECALL,
 ];
+
+/// What is told of the program that writes `abc` twice, where its second write fails.
+const NOTE_OF_FAILED_WRITE: &str =
+    "end output failed\nretired 13\nl1 18 3 0\nl2 3 0 0 0\npages 3 0\nmeta 0 0\nturns 1 0\ntidy 0\n\
+settle done\nclasses 2 0 0 0\nexceptions 4\nencoded 504\nblocks 1024\nratio 800\n";
 
 #[test]
 fn input_reaches_the_output(rt: HostRuntime) -> Result<(), Fail> {
@@ -35,18 +41,29 @@ fn streams_that_fail(rt: HostRuntime) -> Result<(), Fail> {
     let mut failing = Failing::nowhere(alloc);
     failing.output.push((1, 2))?;
     let left = run_program(&rt, alloc, &WRITE_ABC_TWICE, failing)?;
-    let note = b"end output failed\nretired 13\n";
-    left.check(&rt, End::OutFault, b"abcab", note);
-    assert_eq!(rt; left.status.code, 211);
+    left.check(
+        &rt,
+        End::OutFault,
+        b"abcab",
+        NOTE_OF_FAILED_WRITE.as_bytes(),
+    );
+    assert_eq!(rt;
+        (left.status.code, left.note.len()),
+        (211, NOTE_OF_FAILED_WRITE.len())
+    );
     Ok(())
 }
 
 #[test]
 fn ends_by_the_program(rt: HostRuntime) -> Result<(), Fail> {
     let alloc = rt.alloc();
-    let (cause, pc, value) = (0, 0x1_0000, 0x1_0006);
+    let trap = Trap {
+        cause: 0,
+        pc: 0x1_0000,
+        value: 0x1_0006,
+    };
     let cases: [(&[u32], End); 2] = [
-        (&[0x0060_006f], End::Trap { cause, pc, value }),
+        (&[0x0060_006f], End::Trap(trap)),
         (&[0x05e0_0893, ECALL], End::Exit { status: 0 }),
     ];
     for (program, end) in cases {

@@ -6,19 +6,24 @@ use trace_reader::{TraceFault, TraceKind};
 const PARTS_OF_A_WORD: &str = "S 10000 4 12345678\nL 10000 2\nL 10003 1\n";
 
 /// A store to the first line of each of twelve pages.
-const TWELVE_PAGES: &str =
+pub(super) const TWELVE_PAGES: &str =
     "S 10000 4 1\nS 11000 4 1\nS 12000 4 1\nS 13000 4 1\nS 14000 4 1\nS 15000 4 1\n\
 S 16000 4 1\nS 17000 4 1\nS 18000 4 1\nS 19000 4 1\nS 1a000 4 1\nS 1b000 4 1\n";
 
+const NOTE_WITHOUT_ROOM: &str =
+    "end space 00018000 0 free 0 0 0 0\nretired 11\nl1 0 11 9\nl2 11 0 9 1\npages 11 8\nmeta 0 0\nturns 0 0\ntidy 0\n\
+settle space 00018000 0\n";
+
 /// A store, and loads of as many other lines as put its line out of both levels, before it is loaded again.
-const OUT_AND_BACK: &str = "S 10000 4 1\nL 11000 4\nL 12000 4\nL 13000 4\nL 10000 4\nL 10040 4\n";
+pub(super) const OUT_AND_BACK: &str =
+    "S 10000 4 1\nL 11000 4\nL 12000 4\nL 13000 4\nL 10000 4\nL 10040 4\n";
 
 const NOTE_OUT_AND_BACK: &str =
     "end done\nretired 6\nl1 0 6 1\nl2 6 0 1 1\npages 6 1\nmeta 0 0\nturns 0 0\ntidy 0\n\
 settle done\nclasses 1 0 0 0\nexceptions 1\nencoded 190\nblocks 512\nratio 800\n";
 
 /// Caches of two lines and of one set, and no turn of the mover or the cleaner.
-const SMALL_CACHES: [&str; 10] = [
+pub(super) const SMALL_CACHES: [&str; 10] = [
     "--l1-sets",
     "1",
     "--l1-ways",
@@ -31,15 +36,12 @@ const SMALL_CACHES: [&str; 10] = [
     "h",
 ];
 
-/// Runs `trace a` on rows, over sixteen pages in so many frames.
-fn trace<R: Threads + Sync>(
-    rt: &R,
+/// The words of `trace a` over sixteen pages in so many frames.
+pub(super) fn trace_words<'a>(
     alloc: Global,
-    rows: &str,
-    frames: &str,
-    options: &[&str],
-    failing: Failing,
-) -> Result<Left, Fail> {
+    frames: &'a str,
+    options: &[&'a str],
+) -> Result<Vec<&'a str>, Fail> {
     let mut words = Vec::new(alloc);
     for word in ["trace", "a", "--pages", "16", "--frames", frames] {
         words.push(word)?;
@@ -47,6 +49,19 @@ fn trace<R: Threads + Sync>(
     for option in options {
         words.push(*option)?;
     }
+    Ok(words)
+}
+
+/// Runs `trace a` on rows, over sixteen pages in so many frames.
+pub(super) fn trace<R: Threads + Sync>(
+    rt: &R,
+    alloc: Global,
+    rows: &str,
+    frames: &str,
+    options: &[&str],
+    failing: Failing,
+) -> Result<Left, Fail> {
+    let words = trace_words(alloc, frames, options)?;
     let file = Vec::from_slice(alloc, rows.as_bytes())?;
     run_on(rt, alloc, &words, file, failing)
 }
@@ -100,11 +115,7 @@ fn pages_without_room_end_traces(rt: HostRuntime) -> Result<(), Fail> {
         Failing::nowhere(alloc),
     )?;
     assert_eq!(rt; left.status.code, 208);
-    assert!(rt;
-        left.note
-            .starts_with(b"end space 00018000 0 free 0 0 0 0\nretired 11\n")
-    );
-    assert!(rt; left.note.ends_with(b"\nsettle space 00018000 0\n"));
+    assert_eq!(rt; left.note.as_slice(), NOTE_WITHOUT_ROOM.as_bytes());
     let left = trace(
         &rt,
         alloc,
@@ -161,6 +172,25 @@ fn budgets_end_traces(rt: HostRuntime) -> Result<(), Fail> {
             Failing::nowhere(alloc),
         )?;
         left.check(&rt, end, output.as_bytes(), note.as_bytes());
+    }
+    Ok(())
+}
+
+/// A turn behind the last access, or at the used-up budget, is not made.
+#[test]
+fn turns_are_those_before_the_end(rt: HostRuntime) -> Result<(), Fail> {
+    let alloc = rt.alloc();
+    for (rows, budget, beats, turns) in [
+        (PARTS_OF_A_WORD, "1000", "hmc", "2 2"),
+        (PARTS_OF_A_WORD, "3", "hmc", "2 2"),
+        (PARTS_OF_A_WORD, "2", "hmc", "1 1"),
+        ("", "1000", "mch", "0 0"),
+    ] {
+        let options = ["--budget", budget, "--beats", beats];
+        let left = trace(&rt, alloc, rows, "16", &options, Failing::nowhere(alloc))?;
+        let line = format!(in alloc; "\nturns {turns}\n")?;
+        let bytes = line.as_bytes();
+        assert!(rt; left.note.windows(bytes.len()).any(|part| part == bytes));
     }
     Ok(())
 }

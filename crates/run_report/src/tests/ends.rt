@@ -3,14 +3,15 @@ use super::note;
 use crate::{End, Part, hex_digit, write_end};
 use elf_image::{ImageFault, ImageKind};
 use hier_types::{Failed, Geometry, NoSpace, PageNo, SettingName, Sink};
+use rv_core::Trap;
 use std::test::Fail;
 use trace_reader::{TraceFault, TraceKind};
 
-const TRAP: End = End::Trap {
+const TRAP: End = End::Trap(Trap {
     cause: 12,
     pc: 0x1_0abc,
     value: 0xffff_fff7,
-};
+});
 
 const SHORT: End = End::BadImage {
     fault: ImageFault {

@@ -3,8 +3,8 @@ use Rattle.std.specs.Io.KnownBytes.{Appends}
 use Rattle.hier_types.specs.Lines.{flatten}
 use Rattle.hier_types.specs.Outside.{AppendsFront}
 use Rattle.hier_types.specs.Span.{Span}
+use Rattle.hier_types.proofs.StreamLemmas.{appends_nothing}
 use Rattle.hier_types.proofs.TableLemmas.{tabulate-none}
-use Rattle.rv_guest.proofs.RunLemmas.{appends_nothing}
 use Rattle.hier_cli.specs.Images.{page_bytes, text_of_page}
 use Rattle.hier_cli.proofs.ImageLemmas.{text_front, text_more}
 use Rattle.hier_cli.proofs.images.print_pages.Goals as goal

@@ -1,21 +1,35 @@
-use Rattle.sys_shim.specs.Streams.{stream, streams}
+use Rattle.std.proofs.Common.{subst}
+use Rattle.hier_types.specs.Span.{Span}
+use Rattle.hier_types.specs.Streams.{Streams, streams, use_of}
 use Rattle.run_report.specs.declared.end.End.TheVariants.{OutFault}
-use Rattle.hier_cli.specs.Images.{dropped, image_text}
+use Rattle.hier_machine.specs.FileRuns.{RunsToEnd, dropped}
+use Rattle.hier_machine.specs.Memory.{store_of}
+use Rattle.hier_machine.specs.Spaces.{IsEndOf}
+use Rattle.hier_machine.proofs.FileRunLemmas.{begins_within, runs_file}
+use Rattle.hier_cli.specs.Images.{image_text}
 use Rattle.hier_cli.proofs.NoticeLemmas.{is_written}
-use Rattle.hier_cli.proofs.RunLemmas.{ran}
 use Rattle.hier_cli.proofs.images.run_for_image.Goals as goal
+
+pub run-end-requires : goal.run-end-requires
+run-end-requires g c =
+    let opens = c.in-Ok.ensures.ok in
+    record { running = opens.starts.new.running; within = begins_within c.args.settings.now c.args.file.items c.in-Ok.machine opens.starts }
 
 pub returns-clause-ends : goal.returns-clause-ends
 returns-clause-ends g c =
     let settings = c.args.settings.now in
+    let first = c.in-Ok.machine in
     let last = c.run-end.new.self in
-    let own = c.end_of_machine-own.result in
-    let input = stream (g.I.Source.left c.args.input.now) (g.I.Source.left c.run-end.new.input) (g.I.Source.faults c.args.input.now) (g.I.Source.faults c.run-end.new.input) in
+    let end = c.run-end.result in
+    let own = c.told-own.result in
+    let alone : Streams = streams (use_of g.I.Source.left g.I.Source.faults c.args.input.now c.run-end.new.input) dropped in
+    let told = subst (λ (span : Span). IsEndOf span (store_of last.memory) end own) c.run-end.ensures.runs.stays.span c.told-own.ensures in
+    let ran : RunsToEnd first alone own last = record { end = end; run = c.run-end.ensures.runs; flat = c.run-end.ensures.follows; told = told } in
     let printed = c.print_pages-printed.ensures in
     record {
       last = last;
       own = own;
-      ran = ran settings c.args.file.items c.in-Ok.machine last c.run-end.result own (streams input dropped) c.in-Ok.ensures.ok.0 c.in-Ok.ensures.ok.1 c.run-end.ensures.runs c.run-end.ensures.stack c.end_of_machine-own.ensures;
+      ran = runs_file settings c.args.file.items first alone own last c.in-Ok.ensures.ok ran;
       count = c.retired-retired.ensures;
       printed = rw c.end_after.ensures (is_written _ _ _ _ (image_text settings.geometry last.guest.hart.bytes) own OutFault c.print_pages-printed.result printed.ok printed.err printed.cause);
     }

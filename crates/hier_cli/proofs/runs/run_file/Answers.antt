@@ -1,14 +1,13 @@
-use Rattle.sys_shim.specs.Streams.{stream, streams}
-use Rattle.hier_cli.proofs.RunLemmas.{ran, reported}
+use Rattle.hier_types.specs.Streams.{went}
+use Rattle.hier_machine.proofs.FileRunLemmas.{begins_within, reports_file}
 use Rattle.hier_cli.proofs.runs.run_file.Goals as goal
+
+pub run_to_report-requires : goal.run_to_report-requires
+run_to_report-requires g c =
+    let opens = c.in-Ok.ensures.ok in
+    record { running = opens.starts.new.running; within = begins_within c.args.settings.now c.args.file.items c.in-Ok.machine opens.starts }
 
 pub returns-clause-ends : goal.returns-clause-ends
 returns-clause-ends g c =
-    let settings = c.args.settings.now in
-    let last = c.run-end.new.self in
-    let own = c.end_of_machine-end.result in
-    let both = streams (stream (g.I.Source.left c.args.input.now) (g.I.Source.left c.run-end.new.input) (g.I.Source.faults c.args.input.now) (g.I.Source.faults c.run-end.new.input))
-    (stream (g.O.Sink.written c.args.out.now) (g.O.Sink.written c.run-end.new.out) (g.O.Sink.faults c.args.out.now) (g.O.Sink.faults c.run-end.new.out)) in
-    reported settings c.args.file.items both last c.report.new.self own c.report.result
-    (ran settings c.args.file.items c.in-Ok.machine last c.run-end.result own both c.in-Ok.ensures.ok.0 c.in-Ok.ensures.ok.1 c.run-end.ensures.runs c.run-end.ensures.stack c.end_of_machine-end.ensures)
-    c.report.ensures.reports
+    reports_file c.args.settings.now c.args.file.items c.in-Ok.machine (went g.I.Source.left g.I.Source.faults g.O.Sink.written g.O.Sink.faults c.args.input.now c.run_to_report.new.input c.args.out.now c.run_to_report.new.out)
+    c.run_to_report.result c.run_to_report.new.self c.in-Ok.ensures.ok c.run_to_report.ensures.runs

@@ -1,9 +1,8 @@
 use Rattle.std.proofs.Common.{◌≡◌, ◌∙◌, ◌≤◌, ◌<◌, length, Err, sym, ap, subst, arith}
-use Rattle.hier_types.specs.declared.settings.Codec.{Codec}
 use Rattle.elf_image.specs.Image.{page_of}
 use Rattle.page_store.specs.Calls.{PlacesPage}
 use Rattle.page_store.specs.Crowds.{Tight}
-use Rattle.page_store.specs.Store.{Store}
+use Rattle.page_store.specs.Store.{Sizing, Store, sizing_of}
 use Rattle.hier_machine.specs.Lines.{lines_before}
 use Rattle.hier_machine.specs.Placed.{NoRoomFor, PlacedUpTo}
 use Rattle.hier_machine.proofs.PlacedLemmas.{placed_facts, placed_lines}
@@ -15,30 +14,28 @@ place_page-requires c =
     let n = c.loop-number.number in
     let within : n ≤ image.span.pages = omega (arith, c.requires.same, c.loop-number-test.true) in
     let inside : n < image.span.pages = omega (arith, c.requires.same, c.loop-number-test.true) in
-    (placed_facts image c.args.store.now.codec (length c.args.store.now.used) n c.loop-number.store within c.loop-number.invariant.placed).zeros n (omega arith) inside
+    (placed_facts image (sizing_of c.args.store.now) n c.loop-number.store within c.loop-number.invariant.placed).zeros n (omega arith) inside
 
 pub returns-in-Err : goal.returns-in-Err
 returns-in-Err c =
     let image = c.args.image.now in
-    let codec = c.args.store.now.codec in
-    let frames = length c.args.store.now.used in
+    let sizing = sizing_of c.args.store.now in
     let n = c.loop-number.number in
     let mid = c.loop-number.store in
     let after = c.place_page.new.store in
     let refusal = c.in-Err.refusal in
     let within : n ≤ image.span.pages = omega (arith, c.requires.same, c.loop-number-test.true) in
-    let facts = placed_facts image codec frames n mid within c.loop-number.invariant.placed in
+    let facts = placed_facts image sizing n mid within c.loop-number.invariant.placed in
     let refused : PlacesPage mid n (page_of image.span image.file n) (Err refusal) after = subst (λ bytes. PlacesPage mid n bytes (Err refusal) after) c.page.ensures c.in-Err.ensures.err in
     let page = sym refused.page_is in
-    let tight : Tight codec frames (lines_before image n) n refusal.order =
-    subst (λ (k : Codec). Tight k frames (lines_before image n) n refusal.order) facts.codec_is
-    (subst (λ f. Tight mid.codec f (lines_before image n) n refusal.order) facts.frames_are (subst (λ l. Tight mid.codec (length mid.used) l n refusal.order) facts.lines refused.tight)) in
-    let found : NoRoomFor image codec frames refusal = record {
+    let tight : Tight sizing (lines_before image n) n refusal.order =
+    subst (λ (k : Sizing). Tight k (lines_before image n) n refusal.order) facts.sizing_is (subst (λ l. Tight (sizing_of mid) l n refusal.order) facts.lines refused.tight) in
+    let found : NoRoomFor image sizing refusal = record {
       mid = mid;
-      placed = subst (λ p. PlacedUpTo image codec frames p mid) page c.loop-number.invariant.placed;
+      placed = subst (λ p. PlacedUpTo image sizing p mid) page c.loop-number.invariant.placed;
       after = after;
       refused = subst (λ p. PlacesPage mid p (page_of image.span image.file p) (Err refusal) after) page refused;
-      tight = subst (λ p. Tight codec frames (lines_before image p) p refusal.order) page tight;
+      tight = subst (λ p. Tight sizing (lines_before image p) p refusal.order) page tight;
     } in
     record {
       ok = tt;
@@ -49,14 +46,12 @@ returns-in-Err c =
 pub returns : goal.returns
 returns c =
     let image = c.args.image.now in
-    let codec = c.args.store.now.codec in
-    let frames = length c.args.store.now.used in
     let n = c.loop-number.number in
     let mid = c.loop-number.store in
     let all : n ≡ c.args.pages = omega (arith, c.loop-number-test.false, c.loop-number.auto.number-end) in
     let within : n ≤ image.span.pages = omega (arith, c.requires.same, all) in
     record {
-      ok = subst (λ p. PlacedUpTo image codec frames p mid) all c.loop-number.invariant.placed;
+      ok = subst (λ p. PlacedUpTo image (sizing_of c.args.store.now) p mid) all c.loop-number.invariant.placed;
       err = tt;
       size = placed_lines image c.args.pages n c.args.store.now mid c.requires within c.loop-number.invariant.placed;
     }

@@ -1,12 +1,19 @@
 use Rattle.std.proofs.Common.{refl}
-use Rattle.sys_shim.specs.Streams.{stream, streams}
+use Rattle.hier_machine.specs.Beats.{KeepsSettings, TurnsStay}
 use Rattle.hier_machine.specs.contracts.machine.Machine.{the_view}
-use Rattle.hier_machine.proofs.StackLemmas.{stack_hart}
+use Rattle.hier_machine.proofs.ListsLemmas.{lists_hart, made_sizing}
 use Rattle.hier_machine.proofs.machine.Machine.hart_beat.Goals as goal
 
-pub returns-clause-stack : goal.returns-clause-stack
-returns-clause-stack g c =
+pub returns-clause-beats : goal.returns-clause-beats
+returns-clause-beats g c =
+    let old = the_view c.self.inside in
     let new = the_view (record c.self.inside { memory = c.beat-end.new.port; guest = c.beat-end.new.self; ended = c.is_some-self-inside.result }) in
-    let out = streams (stream (g.I.Source.left c.args.input.now) (g.I.Source.left c.beat-end.new.input) (g.I.Source.faults c.args.input.now) (g.I.Source.faults c.beat-end.new.input))
-    (stream (g.O.Sink.written c.args.out.now) (g.O.Sink.written c.beat-end.new.out) (g.O.Sink.faults c.args.out.now) (g.O.Sink.faults c.beat-end.new.out)) in
-    rw (← c.self.view_is) (stack_hart (the_view c.self.inside) new c.beat-end.result out c.beat-end.ensures.did c.beat-end.ensures.made refl)
+    let did = c.beat-end.ensures in
+    let stays : KeepsSettings old new = record { span = did.span; code = did.code; sizing = made_sizing c.self.inside.memory c.beat-end.new.port _ _ _ did.made; budget = refl; beats = refl } in
+    let turns : TurnsStay old new = record { mover = refl; cleaner = refl } in
+    rw (← c.self.view_is) (record { does = did.did; made = did.made; cause = did.cause; stays = stays; turns = turns; ended = c.is_some-self-inside.ensures })
+
+pub returns-clause-lists : goal.returns-clause-lists
+returns-clause-lists g c =
+    let new = the_view (record c.self.inside { memory = c.beat-end.new.port; guest = c.beat-end.new.self; ended = c.is_some-self-inside.result }) in
+    rw (← c.self.view_is) (lists_hart (the_view c.self.inside) new c.beat-end.result _ c.beat-end.ensures.did c.beat-end.ensures.made refl)

@@ -14,7 +14,7 @@ returns-in-Ok-clause-reports c =
     record {
       answer = c.settle.result;
       settles = c.settle.ensures.settles;
-      stack = c.settle.ensures.stack;
+      lists = c.settle.ensures.lists;
       settled = settled_done c.args.self.now c.settle.new.self c.settle.result c.totals.result c.settle.ensures.settles c.in-Ok.is totals;
       end_is = refl;
       retired = c.retired-retired.ensures;
