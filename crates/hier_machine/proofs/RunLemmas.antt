@@ -6,7 +6,7 @@ use Rattle.hier_types.specs.Beats.{is_cleaner, is_mover}
 use Rattle.hier_types.specs.Causes.{raised}
 use Rattle.hier_types.specs.Streams.{FaultsStay, Streams, at_first}
 use Rattle.hier_types.proofs.StreamLemmas.{faults_first}
-use Rattle.beat_runs.specs.Points.{Runs, point, retired_by}
+use Rattle.beat_runs.specs.Points.{Runs, point}
 use Rattle.beat_runs.proofs.PointLemmas.{run_as, run_faults, run_holds, run_turns}
 use Rattle.beat_runs.proofs.StandLemmas.{free_lt, used_le}
 use Rattle.page_store.specs.Store.{Sizing, sizing_of}
@@ -49,12 +49,6 @@ pub keeps_settings : (beat : Beat) (old new : MachineState) (result : Option Mac
 keeps_settings Hart old new result streams h = h.stays
 keeps_settings Mover old new result streams h = subst (KeepsSettings old) (sym (mover_is old new result streams h)) (record { span = refl; code = refl; sizing = refl; budget = refl; beats = refl })
 keeps_settings Cleaner old new result streams h = subst (KeepsSettings old) (sym (cleaner_is old new result streams h)) (record { span = refl; code = refl; sizing = refl; budget = refl; beats = refl })
-
--- a beat that ends nothing leaves the machine running, and is counted where it is the hart's
-pub goes_on : (beat : Beat) (old new : MachineState) (streams : Streams) → old.ended ≡ false → Beats beat old None new streams → (new.ended ≡ false) × (new.guest.retired ≡ retired_by beat old.guest.retired)
-goes_on Hart old new streams running h = (h.ended, h.does.retired)
-goes_on Mover old new streams running h = let is = mover_is old new None streams h in (ap (λ (s : MachineState). s.ended) is ∙ running, ap (λ (s : MachineState). s.guest.retired) is)
-goes_on Cleaner old new streams running h = let is = cleaner_is old new None streams h in (ap (λ (s : MachineState). s.ended) is ∙ running, ap (λ (s : MachineState). s.guest.retired) is)
 
 -- a run that ends before a beat has used up the budget, and ends the machine
 pub stop_is : (budget : ℕ) (a b : MachineState) (end : MachineEnd) → stands_at budget a ≡ Some (end, b) → (end ≡ Budget) × (b ≡ record a { ended = true }) × (budget ≤ a.guest.retired)

@@ -197,17 +197,7 @@ impl Machine {
         ensures lists { ListsBeats (sizing_of (store_of self.old.memory)) beat (lists_of self.old) result (lists_of self.new) (went I.left I.faults O.written O.faults input.old input.new out.old out.new) }
         ensures faults { FaultsStay (went I.left I.faults O.written O.faults input.old input.new out.old out.new) }
     {
-        match beat {
-            Beat::Hart => self.hart_beat(input, out),
-            Beat::Mover => {
-                self.mover_turns = self.mover_turns.saturating_add(1);
-                None
-            }
-            Beat::Cleaner => {
-                self.cleaner_turns = self.cleaner_turns.saturating_add(1);
-                None
-            }
-        }
+        Runner::beat(self, beat, input, out)
     }
 
     /// The hart's beat of a trace: one access, which gives the value that it loads, or 0 for a store. It counts like an
@@ -338,7 +328,17 @@ impl Runner for Machine {
         input: &mut I,
         out: &mut O,
     ) -> Option<MachineEnd> {
-        Machine::beat(self, beat, input, out)
+        match beat {
+            Beat::Hart => self.hart_beat(input, out),
+            Beat::Mover => {
+                self.mover_turns = self.mover_turns.saturating_add(1);
+                None
+            }
+            Beat::Cleaner => {
+                self.cleaner_turns = self.cleaner_turns.saturating_add(1);
+                None
+            }
+        }
     }
 }
 
