@@ -9,7 +9,7 @@ use Rattle.std.proofs.lemmas.List.Folds.{sum_by-replicate}
 use Rattle.std.proofs.lemmas.Nat.Bits.{bit_at-zero}
 use Rattle.buddy_frames.specs.Units.{in_use}
 use Rattle.buddy_frames.specs.FrameByte.{block_free, blocks_of, count_below}
-use Rattle.buddy_frames.specs.FrameSets.{has, bit_of, Puts, HasBelow, IsLeast}
+use Rattle.number_set.specs.Numbers.{has, bit_of, Puts, HasBelow, IsLeast}
 use Rattle.buddy_frames.specs.Indexes.{HasNoFrame, IsIndexed, IsFirstFrame}
 use Rattle.buddy_frames.specs.Kept.{AreFrames}
 use Rattle.buddy_frames.proofs.PlaceLemmas.{four}

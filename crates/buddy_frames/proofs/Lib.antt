@@ -1,4 +1,3 @@
-pub mod SetLemmas
 pub mod TableLemmas
 pub mod PlaceLemmas
 pub mod EffectLemmas

@@ -2,7 +2,7 @@
 use Rattle.std.specs.Prelude.{◌≡◌, ◌<◌, ◌≤◌, ◌==◌, not, ℕ, true, List, length, slice_index}
 use Rattle.std.specs.List.{sum_by}
 use Rattle.buddy_frames.specs.FrameByte.{block_free, blocks_of}
-use Rattle.buddy_frames.specs.FrameSets.{has, bit_of}
+use Rattle.number_set.specs.Numbers.{has, bit_of}
 use Rattle.buddy_frames.specs.Units.{place_at, IsFreeBlock}
 
 -- a set has the frames with a free block of an order, and a count is the number of these blocks

@@ -1,16 +1,16 @@
 // Where the free blocks of one order are, and how many there are.
 ghost use Rattle.std.specs.Prelude.{◌≡◌, ◌<◌, ◌≤◌, ◌+◌, ◌==◌, ℕ, not, IfOk};
 ghost use Rattle.buddy_frames.specs.FrameByte.{blocks_of};
-ghost use Rattle.buddy_frames.specs.FrameSets.{has, Puts, HasBelow};
+ghost use Rattle.number_set.specs.Numbers.{has, Puts, HasBelow};
 
 use crate::frame_byte::block_starts;
-use crate::frame_set::FrameSet;
+use number_set::NumberSet;
 use std::alloc::{AllocError, Global};
 
 /// The frames that have a free block of an order, and the number of these blocks.
 #[derive(Debug, Drop)]
 pub(crate) struct FreeIndex {
-    pub(crate) frames: FrameSet,
+    pub(crate) frames: NumberSet,
     pub(crate) count: u32,
 }
 
@@ -20,7 +20,7 @@ impl FreeIndex {
         ensures count { IfOk result (λ index. index.count ≡ 0) }
         ensures frames { IfOk result (λ index. (n : ℕ) → has index.frames n ≡ 0) }
     {
-        let frames = FrameSet::new(alloc)?;
+        let frames = NumberSet::new(alloc)?;
         Ok(FreeIndex { frames, count: 0 })
     }
 
@@ -30,7 +30,7 @@ impl FreeIndex {
         ensures count { IfOk result (λ index. index.count ≡ count) }
         ensures frames { IfOk result (λ index. HasBelow index.frames count) }
     {
-        let mut frames = FrameSet::new(alloc)?;
+        let mut frames = NumberSet::new(alloc)?;
         for frame in 0..count {
             frames.put(frame, true);
         }

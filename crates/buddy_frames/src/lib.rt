@@ -5,7 +5,6 @@
 
 mod block;
 mod frame_byte;
-mod frame_set;
 mod frames;
 mod free_index;
 #[cfg(test)]

@@ -4,10 +4,10 @@ use Rattle.std.proofs.Math.ListN.{set}
 use Rattle.std.proofs.Math.Seq.{drop-cons}
 use Rattle.std.proofs.lemmas.List.{map-append, take-append-drop, take_all, drop_all, take_more_set, drop-set-lt, set_split}
 use Rattle.l2_segments.specs.declared.held.Held.{Held}
-use Rattle.l2_segments.specs.Parts.{part, ChangesWithin}
+use Rattle.byte_parts.specs.Parts.{part, ChangesWithin}
 use Rattle.l2_segments.specs.Strings.{Text, segments_of}
 use Rattle.l2_segments.specs.Held.{text_at, texts_of, held_at, segments_in, IsLaid}
-use Rattle.l2_segments.proofs.PartLemmas.{part_stays}
+use Rattle.byte_parts.proofs.PartLemmas.{part_stays}
 use Rattle.l2_segments.proofs.LaidLemmas.{segments_in-cons, laid_lower, laid_fits, laid_more}
 
 -- they stay where all of them stand in front of what changes, or behind it

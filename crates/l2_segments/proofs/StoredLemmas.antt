@@ -6,10 +6,10 @@ use Rattle.std.proofs.lemmas.List.{map-append}
 use Rattle.std.proofs.lemmas.List.Sums.{sum_by-cons}
 use Rattle.std.proofs.lemmas.Bool.{cases_eq}
 use Rattle.l2_segments.specs.declared.held.Held.{Held}
-use Rattle.l2_segments.specs.Parts.{part, ChangesWithin}
+use Rattle.byte_parts.specs.Parts.{part, ChangesWithin}
 use Rattle.l2_segments.specs.Strings.{Text, segments_of, segments_sum, string_of, without, with_one_more, AreDistinct, IsString, AreStrings, IsSound}
 use Rattle.l2_segments.specs.Held.{text_at, texts_of, held_at, segments_in, IsLaid, HasTag, IsStored}
-use Rattle.l2_segments.proofs.PartLemmas.{length-part}
+use Rattle.byte_parts.proofs.PartLemmas.{length-part}
 use Rattle.l2_segments.proofs.LaidLemmas.{segments_in-cons, laid_fits, laid_more, laid-remove}
 use Rattle.l2_segments.proofs.SlideLemmas.{texts_stay}
 use Rattle.l2_segments.proofs.TextLemmas.{string_of-here, string_of-past, without-here, without-past, without_none, distinct_more, strings_more, distinct-without, strings-without, segments_sum-without, few}

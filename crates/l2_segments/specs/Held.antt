@@ -2,7 +2,7 @@
 use Rattle.std.specs.Prelude.{◌≡◌, ◌<◌, ◌≤◌, ◌+◌, ◌*◌, ℕ, List, [], ◌∷◌, length, map, sum_by, slice_index_or}
 use Rattle.hier_types.specs.Settings.{IsWithin}
 use Rattle.l2_segments.specs.declared.held.Held.{Held}
-use Rattle.l2_segments.specs.Parts.{part}
+use Rattle.byte_parts.specs.Parts.{part}
 use Rattle.l2_segments.specs.Strings.{Text, segments_of, AreDistinct, AreStrings}
 
 -- the string that stands there

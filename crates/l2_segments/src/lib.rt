@@ -4,7 +4,6 @@
 #![tactic(auto)]
 
 mod held;
-mod parts;
 mod segments;
 mod slide;
 #[cfg(test)]

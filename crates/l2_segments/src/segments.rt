@@ -4,9 +4,9 @@ ghost use Rattle.hier_types.specs.Settings.{IsWithin};
 ghost use Rattle.l2_segments.specs.Strings.{segments_of, room_of, string_of, without, with_texts, with_one_more, IsSound};
 
 use crate::held::{Held, LINE_SEGMENTS, first_byte, segments_of};
-use crate::parts::{read_part, write_part};
 use crate::slide::{index_of, segments_in, start_for};
 use arrayvec::ArrayVec;
+use byte_parts::{read_part, write_part};
 use hier_types::{LINE_BYTES, NoMemory};
 use std::alloc::Global;
 use std::marker::Model;

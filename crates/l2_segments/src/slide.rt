@@ -1,11 +1,11 @@
 // Where strings stand in a row of bytes, and how they are slid together.
 ghost use Rattle.std.specs.Prelude.{◌≡◌, ◌≤◌, ◌+◌, ◌*◌, ℕ, length};
 ghost use Rattle.l2_segments.specs.Strings.{segments_of};
-ghost use Rattle.l2_segments.specs.Parts.{part, ChangesWithin};
+ghost use Rattle.byte_parts.specs.Parts.{part, ChangesWithin};
 ghost use Rattle.l2_segments.specs.Held.{texts_of, segments_in, IsLaid, HasTag};
 
 use crate::held::{Held, first_byte};
-use crate::parts::move_part;
+use byte_parts::move_part;
 
 /// The index of the string under a tag.
 pub(crate) fn index_of(held: &[Held], tag: u8) -> usize

@@ -1,4 +1,4 @@
-use Rattle.buddy_frames.specs.FrameSets.{HasBelow}
+use Rattle.number_set.specs.Numbers.{HasBelow}
 use Rattle.buddy_frames.proofs.free_index.FreeIndex.full.Given as goal
 
 abbrev pub invariant-loop-frame : goal.invariant-loop-frame

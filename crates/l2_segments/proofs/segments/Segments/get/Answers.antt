@@ -1,6 +1,6 @@
 use Rattle.std.proofs.Common.{◌*◌, ◌++◌, List, drop, sym, ap, ◌∙◌, arith}
 use Rattle.l2_segments.specs.declared.held.Held.{Held}
-use Rattle.l2_segments.specs.Parts.{part}
+use Rattle.byte_parts.specs.Parts.{part}
 use Rattle.l2_segments.specs.Held.{held_at}
 use Rattle.l2_segments.proofs.StoredLemmas.{used, string_at, bytes_inside, len_most, length-string}
 use Rattle.l2_segments.proofs.segments.Segments.get.Goals as goal
@@ -23,7 +23,8 @@ read_part-requires-clause-inside c =
 pub read_part-requires-clause-most : goal.read_part-requires-clause-most
 read_part-requires-clause-most c =
     let at = rw c.deref-2.ensures.0 at c.index_of.ensures in
-    rw c.deref.ensures.0 (len_most c.self.invariant c.index_of.result at.inside)
+    let most = len_most c.self.invariant c.index_of.result at.inside in
+    rw c.deref.ensures.0 (omega arith)
 
 pub returns : goal.returns
 returns c =
