@@ -1,8 +1,9 @@
 -- Lemmas on numbers as bytes, and on the elements of a line.
-use Rattle.std.proofs.Common.{◌≡◌, ℕ, zero, suc, ◌+◌, ◌*◌, ◌/◌, ◌%◌, ◌^◌, ◌<◌, ◌≤◌, List, [], ◌∷◌, ◌++◌, length, take, drop, refl, sym, ap, ◌∙◌, get_or, replicate, All, inl, inr, arith}
+use Rattle.std.proofs.Common.{◌≡◌, ℕ, zero, suc, ◌+◌, ◌*◌, ◌/◌, ◌%◌, ◌^◌, ◌<◌, ◌≤◌, List, [], ◌∷◌, ◌++◌, length, take, drop, refl, sym, ap, ◌∙◌, get_or, replicate, All, Fits, w32, inl, inr, arith}
+use Rattle.std.specs.Int.{to_le_bytes}
 use Rattle.std.specs.List.{concat, flat_map}
 use Rattle.std.proofs.Math.Arith.{mod-mul}
-use Rattle.std.proofs.Math.Nat.{pow-le-pow_right, pow-suc}
+use Rattle.std.proofs.Math.Nat.{div-div-eq-div-mul, pow-le-pow_right, pow-suc}
 use Rattle.std.proofs.lemmas.Bool.{cases_lt}
 use Rattle.std.proofs.lemmas.List.{take_more, drop_more, append-nil, get_or-drop, get_or-take, get_or_past, length-append, length-drop, length-take, length-take-le, nil_from_length, take-append-drop}
 use Rattle.std.proofs.lemmas.List.Concat.{flat_map-append}
@@ -131,3 +132,25 @@ copies-more j k bytes e = rw e refl
 
 pub copies-none : (j : ℕ) (bytes : List ℕ) → j ≡ 0 → concat (replicate j bytes) ≡ []
 copies-none j bytes e = rw e refl
+
+-- a number of at most four bytes has 32 bits
+pub fits_mask : (n k : ℕ) → n < 256 ^ k → k ≤ 4 → Fits w32 n
+fits_mask n k below small =
+    let top : 256 ^ k ≤ 256 ^ 4 = pow-le-pow_right {n = 256} (omega arith) {i = k} {j = 4} small in
+    omega arith
+
+two_down : (n : ℕ) → n / 256 / 256 ≡ n / 65536
+two_down n = div-div-eq-div-mul n 256 256
+
+three_down : (n : ℕ) → n / 256 / 256 / 256 ≡ n / 16777216
+three_down n = ap (λ m. m / 256) (two_down n) ∙ div-div-eq-div-mul n 65536 256
+
+-- the first bytes of a number of 32 bits
+pub first_bytes : (n count : ℕ) → count ≤ 4 → take count (to_le_bytes w32 n) ≡ bytes_of count n
+unfolding bytes_of
+first_bytes n zero small = refl
+first_bytes n (suc zero) small = refl
+first_bytes n (suc (suc zero)) small = refl
+first_bytes n (suc (suc (suc zero))) small = rw (two_down n) refl
+first_bytes n (suc (suc (suc (suc zero)))) small = rw (three_down n, two_down n) refl
+first_bytes n (suc (suc (suc (suc (suc count))))) small = absurd (omega arith)

@@ -4,10 +4,11 @@
 //! Nothing here allocates, keeps state or knows where an encoding is put.
 #![tactic(auto)]
 
-pub mod bytes;
+mod bytes;
 mod decode;
 mod elements;
 mod encode;
+mod mask;
 mod row;
 mod shape;
 #[cfg(test)]
@@ -15,4 +16,5 @@ mod tests;
 
 pub use decode::bdi_decode;
 pub use encode::{Coded, bdi_encode};
+pub use mask::{mask_from_bytes, mask_to_bytes};
 pub use row::{bdi_row, mask_bytes, row_size};

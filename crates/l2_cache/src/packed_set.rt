@@ -37,10 +37,10 @@ impl Model for PackedSet {
 }
 
 /// What a slot keeps.
-fn entry_in(tags: &Vec<Tag>, lines: &PackedLines, slot: u32) -> Entry
-    requires tag { slot < length tags.now.items }
+fn entry_in(tags: &[Tag], lines: &PackedLines, slot: u32) -> Entry
+    requires tag { slot < length tags.now }
     requires whole { length (line_at lines.now.lines slot) ≡ 64 }
-    ensures { result ≡ entry_at tags.now.items lines.now.lines slot }
+    ensures { result ≡ entry_at tags.now lines.now.lines slot }
 {
     let tag = tag_of(tags, slot);
     let mut bytes = [0; 64];

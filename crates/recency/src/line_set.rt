@@ -43,7 +43,7 @@ impl LineSet {
             dirty: false,
         };
         let tags = vec![in alloc; unused; ways as usize]?;
-        let bytes = zero_lines(alloc, ways)?;
+        let bytes = vec![in alloc; [0; 64]; ways as usize]?;
         Ok(LineSet {
             ways,
             order,
@@ -185,15 +185,4 @@ impl LineSet {
         mark(&mut self.tags, slot, true);
         copy_in(&mut self.bytes, slot, from);
     }
-}
-
-/// So many lines of zeros.
-fn zero_lines(alloc: Global, count: u32) -> Result<Vec<Line>, NoMemory>
-    ensures { IfOk result (λ lines. length lines.items ≡ count) }
-{
-    let mut lines: Vec<Line> = Vec::with_capacity(alloc, count as usize)?;
-    for made in 0..count {
-        lines.push([0; 64])?;
-    }
-    Ok(lines)
 }

@@ -106,8 +106,8 @@ impl LineSets {
         self.sets[index as usize].clean_last();
     }
 
-    /// The dirty line that a flush writes next, where the sets up to that of the line given have no other one: by rising
-    /// sets, least recent first.
+    /// The dirty line that a flush writes next, where the sets below number `from` have none: by rising sets, least recent
+    /// first.
     pub fn next_dirty(&self, from: u32) -> Option<Entry>
         requires { (i : ℕ) → i < from → last_dirty (set_at self.now i).lines ≡ None }
         ensures { result ≡ next_dirty self.now }

@@ -9,10 +9,10 @@ use crate::order::Order;
 use crate::storage::tag_of;
 
 /// The slot in use that has the line.
-pub fn slot_of(order: &Order, tags: &Vec<Tag>, ways: u32, line: u32) -> Option<u32>
+pub fn slot_of(order: &Order, tags: &[Tag], ways: u32, line: u32) -> Option<u32>
     requires ways { ways ≡ order.now.ways }
-    requires tagged { IsTagged order.now tags.now.items }
-    ensures { IsSlotOf order.now.slots tags.now.items line result }
+    requires tagged { IsTagged order.now tags.now }
+    ensures { IsSlotOf order.now.slots tags.now line result }
 {
     for slot in 0..ways {
         if tag_of(tags, slot).line == line && order.has(slot) {
@@ -67,10 +67,10 @@ fn unused_slot(order: &Order, ways: u32) -> u32
 }
 
 /// The least recent dirty slot.
-pub fn last_dirty_slot(order: &Order, tags: &Vec<Tag>) -> Option<u32>
-    requires { IsTagged order.now tags.now.items }
+pub fn last_dirty_slot(order: &Order, tags: &[Tag]) -> Option<u32>
+    requires { IsTagged order.now tags.now }
     ensures inside { IfSome result (λ slot. slot < order.now.ways) }
-    ensures entry { (bytes : List (List ℕ)) → last_dirty (entries_of tags.now.items bytes order.now.slots) ≡ option_map (entry_at tags.now.items bytes) result }
+    ensures entry { (bytes : List (List ℕ)) → last_dirty (entries_of tags.now bytes order.now.slots) ≡ option_map (entry_at tags.now bytes) result }
 {
     let mut next = order.last();
     while let Some(slot) = next {

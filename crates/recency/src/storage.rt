@@ -6,18 +6,18 @@ use crate::entry::{Entry, Tag};
 use hier_types::Line;
 
 /// The tag of a slot.
-pub fn tag_of(tags: &Vec<Tag>, slot: u32) -> Tag
-    requires { slot < length tags.now.items }
-    ensures { result ≡ tag_at tags.now.items slot }
+pub fn tag_of(tags: &[Tag], slot: u32) -> Tag
+    requires { slot < length tags.now }
+    ensures { result ≡ tag_at tags.now slot }
 {
     tags[slot as usize]
 }
 
 /// What a slot keeps.
-pub(crate) fn entry_in(tags: &Vec<Tag>, bytes: &Vec<Line>, slot: u32) -> Entry
-    requires tag { slot < length tags.now.items }
-    requires bytes { slot < length bytes.now.items }
-    ensures { result ≡ entry_at tags.now.items bytes.now.items slot }
+pub(crate) fn entry_in(tags: &[Tag], bytes: &[Line], slot: u32) -> Entry
+    requires tag { slot < length tags.now }
+    requires bytes { slot < length bytes.now }
+    ensures { result ≡ entry_at tags.now bytes.now slot }
 {
     let tag = tags[slot as usize];
     let line = bytes[slot as usize];
@@ -29,52 +29,52 @@ pub(crate) fn entry_in(tags: &Vec<Tag>, bytes: &Vec<Line>, slot: u32) -> Entry
 }
 
 /// Gives a slot its line, dirty or clean.
-pub fn set_tag(tags: &mut Vec<Tag>, slot: u32, line: u32, dirty: bool)
-    requires { slot < length tags.old.items }
-    ensures { tags.new.items ≡ slice_set tags.old.items slot (record { line = line; dirty = dirty }) }
+pub fn set_tag(tags: &mut [Tag], slot: u32, line: u32, dirty: bool)
+    requires { slot < length tags.old }
+    ensures { tags.new ≡ slice_set tags.old slot (record { line = line; dirty = dirty }) }
 {
     tags[slot as usize] = Tag { line, dirty };
 }
 
 /// Marks a slot's line as dirty or clean.
-pub fn mark(tags: &mut Vec<Tag>, slot: u32, dirty: bool)
-    requires { slot < length tags.old.items }
-    ensures { tags.new.items ≡ slice_set tags.old.items slot (record { line = (tag_at tags.old.items slot).line; dirty = dirty }) }
+pub fn mark(tags: &mut [Tag], slot: u32, dirty: bool)
+    requires { slot < length tags.old }
+    ensures { tags.new ≡ slice_set tags.old slot (record { line = (tag_at tags.old slot).line; dirty = dirty }) }
 {
     let line = tag_of(tags, slot).line;
     set_tag(tags, slot, line, dirty);
 }
 
 /// Copies a slot's bytes.
-pub(crate) fn copy_out(bytes: &Vec<Line>, slot: u32, into: &mut Line)
-    requires { slot < length bytes.now.items }
-    ensures { into.new ≡ slice_index_or bytes.now.items slot [] }
+pub(crate) fn copy_out(bytes: &[Line], slot: u32, into: &mut Line)
+    requires { slot < length bytes.now }
+    ensures { into.new ≡ slice_index_or bytes.now slot [] }
 {
     *into = bytes[slot as usize];
 }
 
 /// Changes a slot's bytes.
-pub(crate) fn copy_in(bytes: &mut Vec<Line>, slot: u32, from: &Line)
-    requires { slot < length bytes.old.items }
-    ensures { bytes.new.items ≡ slice_set bytes.old.items slot from.now }
+pub(crate) fn copy_in(bytes: &mut [Line], slot: u32, from: &Line)
+    requires { slot < length bytes.old }
+    ensures { bytes.new ≡ slice_set bytes.old slot from.now }
 {
     bytes[slot as usize] = *from;
 }
 
 /// One of a slot's bytes.
-pub(crate) fn byte_in(bytes: &Vec<Line>, slot: u32, offset: u32) -> u8
-    requires slot { slot < length bytes.now.items }
+pub(crate) fn byte_in(bytes: &[Line], slot: u32, offset: u32) -> u8
+    requires slot { slot < length bytes.now }
     requires inside { offset < 64 }
-    ensures { result ≡ slice_index (slice_index_or bytes.now.items slot []) offset }
+    ensures { result ≡ slice_index (slice_index_or bytes.now slot []) offset }
 {
     bytes[slot as usize][offset as usize]
 }
 
 /// Changes one of a slot's bytes.
-pub(crate) fn set_byte_in(bytes: &mut Vec<Line>, slot: u32, offset: u32, byte: u8)
-    requires slot { slot < length bytes.old.items }
+pub(crate) fn set_byte_in(bytes: &mut [Line], slot: u32, offset: u32, byte: u8)
+    requires slot { slot < length bytes.old }
     requires inside { offset < 64 }
-    ensures { bytes.new.items ≡ slice_set bytes.old.items slot (slice_set (slice_index_or bytes.old.items slot []) offset byte) }
+    ensures { bytes.new ≡ slice_set bytes.old slot (slice_set (slice_index_or bytes.old slot []) offset byte) }
 {
     bytes[slot as usize][offset as usize] = byte;
 }

@@ -10,8 +10,8 @@ pub loop-next-init : goal.loop-next-init
 loop-next-init c = record {
   used = rw c.last-next.ensures (last_used c.args.order.now.slots);
   same = λ bytes.
-      ap (λ o. last_dirty (entries_of c.args.tags.now.items bytes (through c.args.order.now.slots o))) c.last-next.ensures
-      ∙ ap (λ l. last_dirty (entries_of c.args.tags.now.items bytes l)) (through-last c.args.order.now.slots c.requires.distinct);
+      ap (λ o. last_dirty (entries_of c.args.tags.now bytes (through c.args.order.now.slots o))) c.last-next.ensures
+      ∙ ap (λ l. last_dirty (entries_of c.args.tags.now bytes l)) (through-last c.args.order.now.slots c.requires.distinct);
 }
 
 pub tag_of-requires : goal.tag_of-requires
@@ -25,8 +25,8 @@ pub returns-then-tag_of-clause-entry : goal.returns-then-tag_of-clause-entry
 returns-then-tag_of-clause-entry c = λ bytes.
     let used = rw c.in-Some.is at c.loop-next.invariant.used in
     sym (c.loop-next.invariant.same bytes)
-    ∙ ap (λ o. last_dirty (entries_of c.args.tags.now.items bytes (through c.args.order.now.slots o))) c.in-Some.is
-    ∙ dirty_found c.args.tags.now.items bytes c.args.order.now.slots c.in-Some.slot c.requires.distinct used (sym (ap (λ (t : Tag). t.dirty) c.tag_of.ensures) ∙ c.if-tag_of.true)
+    ∙ ap (λ o. last_dirty (entries_of c.args.tags.now bytes (through c.args.order.now.slots o))) c.in-Some.is
+    ∙ dirty_found c.args.tags.now bytes c.args.order.now.slots c.in-Some.slot c.requires.distinct used (sym (ap (λ (t : Tag). t.dirty) c.tag_of.ensures) ∙ c.if-tag_of.true)
 
 pub before-next-requires : goal.before-next-requires
 before-next-requires c =
@@ -44,8 +44,8 @@ loop-next-preserved c =
     record {
       used = rw c.before-next.ensures (more_used c.args.order.now.slots c.in-Some.slot);
       same = λ bytes.
-          ap (λ o. last_dirty (entries_of c.args.tags.now.items bytes (through c.args.order.now.slots o))) c.before-next.ensures
-          ∙ sym (dirty_passed c.args.tags.now.items bytes c.args.order.now.slots c.in-Some.slot c.requires.distinct used (sym (ap (λ (t : Tag). t.dirty) c.tag_of.ensures) ∙ c.if-tag_of.false))
-          ∙ ap (λ o. last_dirty (entries_of c.args.tags.now.items bytes (through c.args.order.now.slots o))) (sym c.in-Some.is)
+          ap (λ o. last_dirty (entries_of c.args.tags.now bytes (through c.args.order.now.slots o))) c.before-next.ensures
+          ∙ sym (dirty_passed c.args.tags.now bytes c.args.order.now.slots c.in-Some.slot c.requires.distinct used (sym (ap (λ (t : Tag). t.dirty) c.tag_of.ensures) ∙ c.if-tag_of.false))
+          ∙ ap (λ o. last_dirty (entries_of c.args.tags.now bytes (through c.args.order.now.slots o))) (sym c.in-Some.is)
           ∙ c.loop-next.invariant.same bytes;
     }

@@ -9,7 +9,7 @@ use Rattle.recency.proofs.slots.last_dirty_slot.Given as goal
 abbrev pub invariant-loop-next : goal.invariant-loop-next
 invariant-loop-next l = record {
   used : IfSome l.next (λ s. has l.order.slots s ≡ true);
-  same : (bytes : List (List ℕ)) → last_dirty (entries_of l.tags.items bytes (through l.order.slots l.next)) ≡ last_dirty (entries_of l.tags.items bytes l.order.slots);
+  same : (bytes : List (List ℕ)) → last_dirty (entries_of l.tags bytes (through l.order.slots l.next)) ≡ last_dirty (entries_of l.tags bytes l.order.slots);
 }
 
 abbrev pub decreases-loop-next : goal.decreases-loop-next

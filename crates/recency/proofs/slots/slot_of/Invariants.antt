@@ -4,4 +4,4 @@ use Rattle.recency.specs.Slots.{tag_at}
 use Rattle.recency.proofs.slots.slot_of.Given as goal
 
 abbrev pub invariant-loop-slot : goal.invariant-loop-slot
-invariant-loop-slot l = (s : ℕ) → s < l.slot → has l.order.slots s ≡ true → (tag_at l.tags.items s).line ≡ l.line → ⊥
+invariant-loop-slot l = (s : ℕ) → s < l.slot → has l.order.slots s ≡ true → (tag_at l.tags s).line ≡ l.line → ⊥

@@ -4,7 +4,7 @@ use Rattle.recency.proofs.StoreLemmas.{found_entry}
 use Rattle.l2_cache.proofs.packed_set.PackedSet.keeps.Goals as goal
 
 pub returns-in_default : goal.returns-in_default
-returns-in_default c = rw (← c.self.view_is, slot_none c.self.inside.tags.items c.self.inside.lines.lines c.self.inside.order.slots c.args.line c.in_default.ensures) refl
+returns-in_default c = rw (← c.self.view_is, slot_none c.self.inside.tags.items c.self.inside.lines.lines c.self.inside.order.slots c.args.line (rw c.deref.ensures.value at c.in_default.ensures)) refl
 
 pub returns : goal.returns
-returns c = rw (← c.self.view_is, found_entry c.self.invariant.stored c.in-Some.field-0 c.args.line c.in-Some.ensures.0 c.in-Some.ensures.1) refl
+returns c = rw (← c.self.view_is, found_entry c.self.invariant.stored c.in-Some.field-0 c.args.line c.in-Some.ensures.0 (rw c.deref.ensures.value at c.in-Some.ensures.1)) refl

@@ -4,10 +4,10 @@ use Rattle.recency.proofs.StoreLemmas.{used_below, found_entry, found_touched, n
 use Rattle.recency.proofs.line_set.LineSet.touch.Goals as goal
 
 pub returns-in_default-clause-found : goal.returns-in_default-clause-found
-returns-in_default-clause-found c = rw (← c.self.view_is, slot_none c.self.inside.tags.items c.self.inside.bytes.items c.self.inside.order.slots c.args.line c.in_default.ensures) refl
+returns-in_default-clause-found c = rw (← c.self.view_is, slot_none c.self.inside.tags.items c.self.inside.bytes.items c.self.inside.order.slots c.args.line (rw c.deref.ensures.value at c.in_default.ensures)) refl
 
 pub returns-in_default-clause-after : goal.returns-in_default-clause-after
-returns-in_default-clause-after c = rw (← c.self.view_is) (ap (λ l. record { ways = c.self.inside.ways; lines = l }) (none_touched c.self.invariant c.args.line c.in_default.ensures))
+returns-in_default-clause-after c = rw (← c.self.view_is) (ap (λ l. record { ways = c.self.inside.ways; lines = l }) (none_touched c.self.invariant c.args.line (rw c.deref.ensures.value at c.in_default.ensures)))
 
 pub use_slot-requires : goal.use_slot-requires
 use_slot-requires c = used_below c.self.invariant c.in-Some.slot c.in-Some.ensures.0
@@ -16,9 +16,9 @@ pub invariant_of-self : goal.invariant_of-self
 invariant_of-self c = rw c.use_slot.ensures (stored_used c.self.invariant c.in-Some.slot c.in-Some.ensures.0)
 
 pub returns-clause-found : goal.returns-clause-found
-returns-clause-found c = rw (← c.self.view_is, found_entry c.self.invariant c.in-Some.slot c.args.line c.in-Some.ensures.0 c.in-Some.ensures.1) refl
+returns-clause-found c = rw (← c.self.view_is, found_entry c.self.invariant c.in-Some.slot c.args.line c.in-Some.ensures.0 (rw c.deref.ensures.value at c.in-Some.ensures.1)) refl
 
 pub returns-clause-after : goal.returns-clause-after
 returns-clause-after c =
     rw (← c.self.view_is) (ap (λ l. record { ways = c.self.inside.ways; lines = l })
-    (rw c.use_slot.ensures (found_touched c.self.invariant c.in-Some.slot c.args.line c.in-Some.ensures.0 c.in-Some.ensures.1)))
+    (rw c.use_slot.ensures (found_touched c.self.invariant c.in-Some.slot c.args.line c.in-Some.ensures.0 (rw c.deref.ensures.value at c.in-Some.ensures.1))))
