@@ -1,10 +1,9 @@
-ghost use Rattle.std.specs.Prelude.{◌≡◌, ◌≤◌, ◌↔◌, ℕ, ◌-◌, ◌++◌, List, Some, None, MatchOption, IfSome, IsTrue, IsFalse, length, replicate};
+ghost use Rattle.std.specs.Prelude.{◌≡◌, ◌≤◌, ℕ, ◌-◌, ◌++◌, List, Some, None, MatchOption, IfSome, IsTrue, IsFalse, length, replicate};
 ghost use Rattle.arrayvec.specs.ArrayVec.{array_vec_len};
-ghost use Rattle.line_codec.specs.Slots.{stored, FitsIn, encoding, padded, bdi_meaning, Says};
+ghost use Rattle.line_codec.specs.Slots.{stored, fits, encoding, padded, bdi_meaning, Says, line_in, SlotsSayLines};
 
 use arrayvec::ArrayVec;
-use bdi_codec::bytes::{number, push_bytes, push_number};
-use bdi_codec::{bdi_decode, bdi_encode, mask_bytes, row_size};
+use bdi_codec::{bdi_decode, bdi_encode, mask_bytes, mask_from_bytes, mask_to_bytes, row_size};
 use fpc_codec::{fpc_decode, fpc_encode};
 use hier_types::Codec;
 
@@ -24,10 +23,12 @@ fn bdi_encoded(line: &[u8; 64]) -> Option<ArrayVec<u8, 64>>
         return None;
     }
     let mask_size = usize::from(mask_bytes(coded.row));
+    let payload = coded.payload.as_slice();
+    let mask = mask_to_bytes(coded.mask);
     let mut bytes = ArrayVec::new();
     bytes.push(coded.row);
-    push_bytes(&mut bytes, coded.payload.as_slice());
-    push_number(&mut bytes, mask_size, u64::from(coded.mask));
+    bytes.try_extend_from_slice(payload).unwrap();
+    bytes.try_extend_from_slice(&mask[..mask_size]).unwrap();
     Some(bytes)
 }
 
@@ -41,7 +42,7 @@ fn fpc_encoded(line: &[u8; 64]) -> Option<ArrayVec<u8, 64>>
     };
     let mut bytes = ArrayVec::new();
     bytes.push(PATTERNS_HEADER);
-    push_bytes(&mut bytes, codes.as_slice());
+    bytes.try_extend_from_slice(codes.as_slice()).unwrap();
     Some(bytes)
 }
 
@@ -71,7 +72,7 @@ fn put(slot: &mut [u8], bytes: &[u8])
 /// slot's end. False, with the slot as it was, exactly where the line has no stored size or more bytes than the
 /// slot. Makes the payload once, on the stack, also where it does not fit.
 pub fn to_slot(codec: Codec, line: &[u8; 64], slot: &mut [u8]) -> bool
-    ensures fits { IsTrue result ↔ FitsIn codec line.now (length slot.old) }
+    ensures fits { result ≡ fits codec (length slot.old) line.now }
     ensures written { IsTrue result
         → slot.new ≡ padded (length slot.old) (encoding codec line.now) }
     ensures reads_back { IsTrue result → Says slot.new line.now }
@@ -98,8 +99,7 @@ fn bdi_from_slot(row: u8, bytes: &[u8]) -> Option<[u8; 64]>
         return None;
     }
     let (payload, rest) = bytes.split_at(size);
-    let mask = number(&rest[..mask_size]);
-    bdi_decode(row, mask as u32, payload)
+    bdi_decode(row, mask_from_bytes(&rest[..mask_size]), payload)
 }
 
 /// The line that the slot says, whichever codec put it there; what stands behind the encoding is not read.
@@ -110,6 +110,7 @@ pub fn from_slot(slot: &[u8]) -> Option<[u8; 64]>
     ensures meaning { MatchOption result ((line : List ℕ) → ¬ Says slot.now line)
         (λ line. Says slot.now line) }
     ensures only { (line : List ℕ) → Says slot.now line → result ≡ Some line }
+    ensures value { IfSome result (λ line. line ≡ line_in slot.now) }
 {
     match slot {
         [row @ 0..=LAST_ROW, bytes @ ..] => bdi_from_slot(*row, bytes),
@@ -117,3 +118,8 @@ pub fn from_slot(slot: &[u8]) -> Option<[u8; 64]>
         _ => None,
     }
 }
+
+/// A slot that begins with the encoding of a line says that line, in as many bytes as the line takes in a slot.
+pub fn slots_say_lines()
+    ensures { SlotsSayLines }
+{}

@@ -1,5 +1,6 @@
 use super::*;
 use hier_types::Codec;
+use sample_lines::{plain, rising};
 
 fn line_of(words: [u32; 16]) -> [u8; 64] {
     let mut line = [0; 64];
@@ -11,14 +12,6 @@ fn line_of(words: [u32; 16]) -> [u8; 64] {
         line[4 * place + 3] = d;
     }
     line
-}
-
-fn rising(first: u32, step: u32) -> [u8; 64] {
-    let mut words = [first; 16];
-    for place in 1..16usize {
-        words[place] = words[place - 1].wrapping_add(step);
-    }
-    line_of(words)
 }
 
 fn all_but_one(word: u32, other: u32) -> [u8; 64] {
@@ -65,7 +58,7 @@ fn sizes_under_base_delta_immediate(rt: HostRuntime) {
         (rising(0x0001_0000, 4), 20, Some(23)),
         (all_but_one(0x1000, 0x107f), 16, Some(18)),
         (all_but_one(0x1000, 0x1080), 24, Some(26)),
-        (rising(0x0123_4567, 0x0123_4567), 64, None),
+        (plain(), 64, None),
     ] {
         assert_eq!(rt; size(Codec::Bdi, &line), bytes);
         assert_eq!(rt; stored_size(Codec::Bdi, &line), stored);
@@ -91,17 +84,17 @@ fn sizes_under_frequent_patterns(rt: HostRuntime) {
 #[tactic(auto, using(crate::proofs::PayloadLemmas::says_line_of))]
 fn payloads_and_their_forms(rt: HostRuntime) {
     let rising_words = rising(0x0001_0000, 4);
-    let plain = rising(0x0123_4567, 0x0123_4567);
+    let unshortened = plain();
     let mask = 0xffff;
     for (codec, line, form, bytes) in [
         (Codec::Bdi, [0; 64], Form::Deltas { row: 0, mask: 0 }, 1),
         (Codec::Bdi, repeated(), Form::Deltas { row: 1, mask: 0 }, 8),
         (Codec::Bdi, rising_words, Form::Deltas { row: 5, mask }, 20),
-        (Codec::Bdi, plain, Form::Plain, 64),
+        (Codec::Bdi, unshortened, Form::Plain, 64),
         (Codec::Fpc, [0; 64], Form::Patterns, 2),
         (Codec::Fpc, repeated(), Form::Plain, 64),
         (Codec::Fpc, rising_words, Form::Patterns, 38),
-        (Codec::Fpc, plain, Form::Plain, 64),
+        (Codec::Fpc, unshortened, Form::Plain, 64),
     ] {
         let packed = pack(codec, &line);
         assert_eq!(rt; packed.form, form);
@@ -177,7 +170,7 @@ fn header_that_names_the_codec(rt: HostRuntime) {
 
 #[test]
 fn line_that_no_slot_holds(rt: HostRuntime) {
-    let line = rising(0x0123_4567, 0x0123_4567);
+    let line = plain();
     for codec in [Codec::Bdi, Codec::Fpc] {
         let mut slot = [0xff; 64];
         assert!(rt; !to_slot(codec, &line, &mut slot));

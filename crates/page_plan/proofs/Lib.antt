@@ -1,3 +1,5 @@
-pub mod LayoutLemmas
+pub mod KeptLemmas
+pub mod ListLemmas
 pub mod PlanLemmas
 pub mod TotalLemmas
+pub mod PageLemmas

@@ -1,19 +1,19 @@
 -- A page has one plan, and `plan_of` computes it.
-use Rattle.std.proofs.Common.{ℕ, zero, suc, cond, ◌≡◌, ◌⊎◌, ◌+◌, ◌<◌, ◌≤◌, Bool, true, false, List, Option, Some, None, MatchOption, length, fold, map, refl, sym, subst, inl, inr, arith}
+use Rattle.std.proofs.Common.{ℕ, zero, suc, cond, ◌≡◌, ◌⊎◌, ◌+◌, ◌<◌, ◌≤◌, Bool, true, false, List, Option, Some, None, MatchOption, fold, map, refl, sym, subst, inl, inr, ◌∙◌, arith}
 use Rattle.std.specs.Bool.{Decides}
 use Rattle.std.specs.Option.{option_map_or}
 use Rattle.std.specs.Str.{bytes_eq}
 use Rattle.std.proofs.lemmas.Bool.Decides.{nat_tests, leb_tells, Decides-by_and}
-use Rattle.std.proofs.lemmas.List.{length-map}
 use Rattle.std.proofs.lemmas.Slice.Eq.{bytes_eq-Decides}
 use Rattle.hier_types.specs.declared.settings.Codec.{Codec}
-use Rattle.hier_types.specs.Lines.{zero_line}
-use Rattle.line_codec.specs.Slots.{stored}
+use Rattle.hier_types.specs.Lines.{AreLines, zero_line}
 use Rattle.page_plan.specs.declared.least.PagePlan.{PagePlan}
 use Rattle.page_plan.specs.declared.least.PagePlan.TheVariants.{Zero, Packed, Raw}
-use Rattle.page_plan.specs.Layout.{IsTarget, IsTargetBelow, targets, cap, stored_sizes, exceptions_of, chunks_of, IsOrderFor, order_for}
-use Rattle.page_plan.specs.PagePlan.{IsZeroPage, is_zero_page, IsOrder, IsAtMost, is_at_most, IsLeastPacked, IsLeastBelow, IsPlan, IsInRange, layout_with, lesser, plan_of}
-use Rattle.page_plan.proofs.LayoutLemmas.{exceptions_of-le}
+use Rattle.line_codec.specs.Layout.{IsTarget, IsTargetBelow, targets, cap, stored_sizes, exceptions_of, chunks_of}
+use Rattle.page_plan.specs.Layout.{IsOrderFor, order_for}
+use Rattle.page_plan.specs.KeptSizes.{kept_sizes, sizes_told}
+use Rattle.page_plan.specs.PagePlan.{IsZeroPage, is_zero_page, IsOrder, IsAtMost, is_at_most, IsLeastPacked, IsLeastBelow, IsPlan, layout_with, lesser, plan_of}
+use Rattle.page_plan.proofs.KeptLemmas.{exceptions_of-kept}
 
 -- the computed test for a page of zeros
 pub is_zero_page-Decides : (lines : List (List ℕ)) → Decides (is_zero_page lines) (IsZeroPage lines)
@@ -189,16 +189,22 @@ IsPlan-unique codec lines Raw Raw first second = refl
 pub only_plan : (codec : Codec) (lines : List (List ℕ)) (plan : PagePlan) → IsPlan codec lines plan → plan ≡ plan_of codec lines
 only_plan codec lines plan is_plan = IsPlan-unique codec lines plan (plan_of codec lines) is_plan (IsPlan-plan_of codec lines)
 
--- the numbers of the plan of a page of 64 lines
-pub plan_in_range : (codec : Codec) (lines : List (List ℕ)) (plan : PagePlan) → length lines ≡ 64 → IsPlan codec lines plan → IsInRange plan
-plan_in_range codec lines Zero whole is_plan = tt
-plan_in_range codec lines (Packed k t x) whole is_plan = (
-  is_plan.1.is_order.known,
-  is_plan.1.is_target,
-  (
-      let at_most = exceptions_of-le (stored_sizes codec lines) t in
-      let lines_asked = length-map lines (λ line. stored codec line) in
-      let counted = is_plan.1.counted in
-      omega (arith, at_most, lines_asked, counted)),
-)
-plan_in_range codec lines Raw whole is_plan = tt
+-- the least layout by some sizes is so by others that leave as many exceptions
+least_along : (a b : List (Option ℕ)) (plan : PagePlan) → ((t : ℕ) → IsTarget t → exceptions_of a t ≡ exceptions_of b t) → IsLeastBelow 32 a plan → IsLeastBelow 32 b plan
+least_along a b Zero same least = absurd least
+least_along a b (Packed order target exceptions) same least = record {
+  is_target = least.is_target;
+  counted = least.counted ∙ same target least.is_target;
+  is_order = subst (λ (n : ℕ). IsOrderFor (1 + target + n) order) (same target least.is_target) least.is_order;
+  least = λ k t is_target is_order.
+      let before : IsOrder a t k = subst (λ (n : ℕ). IsOrderFor (1 + t + n) k) (sym (same t is_target)) is_order in
+      subst (λ (n : ℕ). IsAtMost order exceptions target k n t) (same t is_target) (least.least k t is_target before);
+}
+least_along a b Raw same least = λ k t is_target is_order. least k t is_target (subst (λ (n : ℕ). IsOrderFor (1 + t + n) k) (sym (same t is_target)) is_order)
+
+-- the least layout by what the bytes of a page say is the plan of the page, where it is not zero
+pub least_kept : (codec : Codec) (lines : List (List ℕ)) (plan : PagePlan) → AreLines lines → ¬ IsZeroPage lines
+    → IsLeastBelow 32 (sizes_told (Some 1) (kept_sizes codec lines)) plan → plan ≡ plan_of codec lines
+least_kept codec lines plan whole nonzero least =
+    only_plan codec lines plan (nonzero_plan codec lines plan nonzero
+    (least_along (sizes_told (Some 1) (kept_sizes codec lines)) (stored_sizes codec lines) plan (λ t is_target. exceptions_of-kept codec lines t whole is_target) least))

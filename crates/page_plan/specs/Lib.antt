@@ -1,3 +1,4 @@
+pub mod KeptSizes
 pub mod Layout
 pub mod PagePlan
 pub mod Pages

@@ -7,7 +7,8 @@ use Rattle.hier_types.specs.declared.settings.Codec.{Codec}
 use Rattle.hier_types.specs.Lines.{zero_line}
 use Rattle.page_plan.specs.declared.least.PagePlan.{PagePlan}
 use Rattle.page_plan.specs.declared.least.PagePlan.TheVariants.{Zero, Packed, Raw}
-use Rattle.page_plan.specs.Layout.{IsTarget, IsTargetBelow, targets, stored_sizes, exceptions_of, chunks_of, IsOrderFor, order_for}
+use Rattle.line_codec.specs.Layout.{IsTarget, IsTargetBelow, targets, stored_sizes, exceptions_of, chunks_of}
+use Rattle.page_plan.specs.Layout.{IsOrderFor, order_for}
 
 -- all lines are zero
 abbrev pub IsZeroPage : List (List ℕ) → Type 0
@@ -68,7 +69,3 @@ lesser Raw other = other
 -- the plan of a page, computed: the only one
 unfoldable pub plan_of : Codec → List (List ℕ) → PagePlan
 plan_of codec lines = if is_zero_page lines then Zero else fold lesser Raw (map (layout_with (stored_sizes codec lines)) targets)
-
--- the plan of every page that has these stored sizes and is not zero
-abbrev pub IsPlanOfSizes : List (Option ℕ) → PagePlan → Type 0
-IsPlanOfSizes sizes plan = (codec : Codec) (lines : List (List ℕ)) → ¬ IsZeroPage lines → stored_sizes codec lines ≡ sizes → plan ≡ plan_of codec lines

@@ -1,25 +1,7 @@
 use super::*;
 use hier_types::{Codec, Line};
-
-// Words that rise by the same step each.
-fn rising(first: u32, step: u32) -> Line {
-    let mut line = [0; 64];
-    let mut word = first;
-    for place in 0..16usize {
-        let [a, b, c, d] = word.to_le_bytes();
-        line[4 * place] = a;
-        line[4 * place + 1] = b;
-        line[4 * place + 2] = c;
-        line[4 * place + 3] = d;
-        word = word.wrapping_add(step);
-    }
-    line
-}
-
-// A line that neither codec shortens.
-fn plain() -> Line {
-    rising(0x0123_4567, 0x0123_4567)
-}
+use sample_lines::{plain, rising};
+use size_ledger::SizeRow;
 
 fn page_of(line: Line, first: Line, count: usize) -> [Line; 64] {
     let mut page = [line; 64];
@@ -53,10 +35,7 @@ fn zeros_and_plain_lines(rt: HostRuntime) {
             (64, PagePlan::Raw),
         ] {
             let page = page_of([0; 64], plain(), count);
-            let sizes = sizes_of(codec, &page);
             assert_eq!(rt; plan(codec, &page), expected);
-            assert_eq!(rt; plan_with(&page, &sizes), expected);
-            assert_eq!(rt; exceptions(&sizes, 28) as usize, count);
         }
     }
 }
@@ -78,5 +57,69 @@ fn least_order_before_fewest_exceptions(rt: HostRuntime) {
     for (count, expected) in [(8, packed(1, 4, 8)), (12, packed(2, 24, 0))] {
         let page = page_of([0; 64], rising(0x0001_0000, 4), count);
         assert_eq!(rt; plan(Codec::Bdi, &page), expected);
+    }
+}
+
+#[test]
+fn changed_line_against_changed_page(rt: HostRuntime) {
+    for codec in [Codec::Bdi, Codec::Fpc] {
+        for line in [[0; 64], plain(), rising(0x0001_0000, 4)] {
+            let mut page = page_of([0; 64], plain(), 3);
+            let mut sizes = PageSizes::of(codec, &page);
+            for index in [0, 7, 63] {
+                page[index] = line;
+                sizes.set(codec, index, &line);
+                assert_eq!(rt; sizes, PageSizes::of(codec, &page));
+                assert_eq!(rt; sizes.plan(), plan(codec, &page));
+            }
+        }
+    }
+}
+
+#[test]
+fn rows_of_three_plain_lines(rt: HostRuntime) {
+    for (codec, at_4, at_28) in [(Codec::Bdi, 314, 314), (Codec::Fpc, 375, 375)] {
+        let page = page_of([0; 64], plain(), 3);
+        let sizes = PageSizes::of(codec, &page);
+        let least = SizeRow {
+            order: Some(0),
+            exceptions: 3,
+            encoded: at_4,
+        };
+        let kept = SizeRow {
+            order: Some(2),
+            exceptions: 3,
+            encoded: at_28,
+        };
+        assert_eq!(rt; sizes.row(codec, sizes.plan()), least);
+        assert_eq!(rt; sizes.row(codec, packed(2, 28, 3)), kept);
+        assert_eq!(rt;
+            PageSizes::of_zeros().row(codec, PagePlan::Zero),
+            SizeRow::ZEROS
+        );
+        assert_eq!(rt; sizes.row(codec, PagePlan::Raw), SizeRow::PLAIN);
+    }
+}
+
+#[test]
+fn rows_of_rising_lines(rt: HostRuntime) {
+    let page = page_of(rising(0x0001_0000, 4), plain(), 7);
+    let sizes = PageSizes::of(Codec::Bdi, &page);
+    for (target, exceptions, encoded) in [(24, 7, 57 * 23 + 7 * 64), (20, 64, 4096)] {
+        let row = SizeRow {
+            order: Some(2),
+            exceptions,
+            encoded,
+        };
+        assert_eq!(rt; sizes.row(Codec::Bdi, packed(2, target, exceptions)), row);
+    }
+}
+
+#[test]
+fn sizes_of_zeros(rt: HostRuntime) {
+    for codec in [Codec::Bdi, Codec::Fpc] {
+        let zeros = PageSizes::of_zeros();
+        assert_eq!(rt; zeros, PageSizes::of(codec, &[[0; 64]; 64]));
+        assert_eq!(rt; zeros.plan(), PagePlan::Zero);
     }
 }

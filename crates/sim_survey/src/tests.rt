@@ -1,22 +1,8 @@
 use super::*;
-use hier_types::{Codec, Line, Totals};
+use hier_types::{Codec, Totals};
+use sample_lines::plain;
 use std::alloc::Global;
 use std::test::Fail;
-
-// A line that no slot holds: word i is 01234567 hexadecimal, i + 1 times.
-fn plain() -> Line {
-    let mut line = [0; 64];
-    let mut word = 0u32;
-    for place in 0..16usize {
-        word = word.wrapping_add(0x0123_4567);
-        let [a, b, c, d] = word.to_le_bytes();
-        line[4 * place] = a;
-        line[4 * place + 1] = b;
-        line[4 * place + 2] = c;
-        line[4 * place + 3] = d;
-    }
-    line
-}
 
 /// The pages that are measured at once.
 const PAGES: usize = 4096;

@@ -1,10 +1,10 @@
 // Many pages, measured side by side.
 ghost use Rattle.std.specs.Prelude.{◌≡◌, ◌+◌, ◌<◌, ◌≤◌, All, length, map, IfOk};
 ghost use Rattle.page_plan.specs.Pages.{page_of, pages_of};
-ghost use Rattle.page_plan.specs.Sizes.{sizes_of_memory};
+ghost use Rattle.page_plan.specs.Sizes.{row_of, sizes_of_memory};
 ghost use Rattle.sim_survey.specs.Filled.{page_count, lines_of_filled};
-ghost use Rattle.sim_survey.specs.Rows.{row_of, HasKnownOrder, AreWithinPages, totals_of};
-ghost use Rattle.size_ledger.specs.Shares.{share, plus};
+ghost use Rattle.size_ledger.specs.Ranges.{HasKnownOrder};
+ghost use Rattle.size_ledger.specs.Shares.{totals_of};
 
 use crate::measure;
 use crate::page_bytes::page_at;
@@ -36,17 +36,6 @@ fn rows<R: Threads + Sync>(
         .collect(rt, alloc)
 }
 
-/// Counts one more page, after so many.
-fn add_page(ledger: &mut Ledger, pages: usize, row: SizeRow)
-    requires few { pages < 16384 }
-    requires known { HasKnownOrder row }
-    requires most { AreWithinPages pages ledger.old }
-    ensures added { ledger.new ≡ plus ledger.old (share row) }
-    ensures most { AreWithinPages (pages + 1) ledger.new }
-{
-    ledger.add(&row);
-}
-
 /// The totals of some pages.
 fn sum(rows: &[SizeRow]) -> Totals
     requires few { length rows.now ≤ 16384 }
@@ -55,7 +44,7 @@ fn sum(rows: &[SizeRow]) -> Totals
 {
     let mut ledger = Ledger::new();
     for page in 0..rows.len() {
-        add_page(&mut ledger, page, rows[page]);
+        ledger.add_page(page, rows[page]);
     }
     ledger.totals()
 }

@@ -1,20 +1,21 @@
--- What one page adds to the totals of a memory.
-use Rattle.std.specs.Prelude.{ℕ, ◌+◌, ◌*◌, ◌^◌, ◌<◌, ◌≤◌, ◌==◌, Bool, true, false, if◌then◌else◌}
+-- What one page adds to the totals of a memory, by the order of its block, which is None where it has none.
+use Rattle.std.specs.Prelude.{ℕ, ◌+◌, ◌*◌, ◌^◌, ◌<◌, ◌≤◌, ◌==◌, Bool, true, false, if◌then◌else◌, List, Option}
+use Rattle.std.specs.List.{sum_by}
 use Rattle.std.specs.Option.{option_map_or}
 use Rattle.hier_types.specs.declared.counts.Totals.{Totals}
 use Rattle.size_ledger.specs.declared.row.SizeRow.{SizeRow}
 
--- the page has no block
-abbrev pub is_zero : SizeRow → Bool
-is_zero row = option_map_or (λ k. false) row.order true
+-- a page has no block
+abbrev pub has_none : Option ℕ → Bool
+has_none order = option_map_or (λ k. false) order true
 
 -- its block is of this order
-abbrev pub has_order : ℕ → SizeRow → Bool
-has_order order row = option_map_or (λ k. k == order) row.order false
+abbrev pub has_order : ℕ → Option ℕ → Bool
+has_order k order = option_map_or (λ o. o == k) order false
 
 -- the bytes of its block
-abbrev pub block_bytes : SizeRow → ℕ
-block_bytes row = option_map_or (λ k. 512 * 2 ^ k) row.order 0
+abbrev pub block_bytes : Option ℕ → ℕ
+block_bytes order = option_map_or (λ k. 512 * 2 ^ k) order 0
 
 abbrev pub one_if : Bool → ℕ
 one_if holds = if holds then 1 else 0
@@ -22,14 +23,14 @@ one_if holds = if holds then 1 else 0
 -- one page of its class, its exceptions, the bytes of its lines and of its block
 abbrev pub share : SizeRow → Totals
 share row = record {
-  zero = one_if (is_zero row);
-  c512 = one_if (has_order 0 row);
-  c1024 = one_if (has_order 1 row);
-  c2048 = one_if (has_order 2 row);
-  c4096 = one_if (has_order 3 row);
+  zero = one_if (has_none row.order);
+  c512 = one_if (has_order 0 row.order);
+  c1024 = one_if (has_order 1 row.order);
+  c2048 = one_if (has_order 2 row.order);
+  c4096 = one_if (has_order 3 row.order);
   exceptions = row.exceptions;
   encoded = row.encoded;
-  blocks = block_bytes row;
+  blocks = block_bytes row.order;
 }
 
 -- the totals of no pages
@@ -47,6 +48,19 @@ plus a b = record {
   exceptions = a.exceptions + b.exceptions;
   encoded = a.encoded + b.encoded;
   blocks = a.blocks + b.blocks;
+}
+
+-- the shares of all these pages
+abbrev pub totals_of : List SizeRow → Totals
+totals_of rows = record {
+  zero = sum_by (λ row. (share row).zero) rows;
+  c512 = sum_by (λ row. (share row).c512) rows;
+  c1024 = sum_by (λ row. (share row).c1024) rows;
+  c2048 = sum_by (λ row. (share row).c2048) rows;
+  c4096 = sum_by (λ row. (share row).c4096) rows;
+  exceptions = sum_by (λ row. (share row).exceptions) rows;
+  encoded = sum_by (λ row. (share row).encoded) rows;
+  blocks = sum_by (λ row. (share row).blocks) rows;
 }
 
 -- the pages of each class are below 2^32, and the other totals below 2^64

@@ -1,6 +1,7 @@
 // Totals that follow each page.
-ghost use Rattle.std.specs.Prelude.{◌≡◌, ◌<◌, ◌^◌};
-ghost use Rattle.size_ledger.specs.Shares.{share, block_bytes, is_zero, has_order, one_if, plus, no_pages, AreInRange, AreWithin};
+ghost use Rattle.std.specs.Prelude.{◌≡◌, ◌+◌, ◌<◌, ◌^◌};
+ghost use Rattle.size_ledger.specs.Ranges.{HasKnownOrder, AreWithinPages};
+ghost use Rattle.size_ledger.specs.Shares.{share, block_bytes, has_none, has_order, one_if, plus, no_pages, AreInRange, AreWithin};
 
 use crate::row::SizeRow;
 use hier_types::Totals;
@@ -28,8 +29,8 @@ impl Model for Ledger {
 
 /// The bytes of a page's block.
 fn bytes_of_block(row: &SizeRow) -> u64
-    requires { block_bytes row.now < 2 ^ 64 }
-    ensures { result ≡ block_bytes row.now }
+    requires { block_bytes row.now.order < 2 ^ 64 }
+    ensures { result ≡ block_bytes row.now.order }
 {
     match row.order {
         Some(order) => 512 * 2u64.pow(u32::from(order)),
@@ -39,21 +40,21 @@ fn bytes_of_block(row: &SizeRow) -> u64
 
 /// One where the page's block has this order.
 fn one_of(row: &SizeRow, order: u8) -> u32
-    ensures { result ≡ one_if (has_order order row.now) }
+    ensures { result ≡ one_if (has_order order row.now.order) }
 {
     if row.order == Some(order) { 1 } else { 0 }
 }
 
 /// One where the page is of zeros.
 fn one_of_zeros(row: &SizeRow) -> u32
-    ensures { result ≡ one_if (is_zero row.now) }
+    ensures { result ≡ one_if (has_none row.now.order) }
 {
     if row.order.is_none() { 1 } else { 0 }
 }
 
 /// What a page adds to each total.
 fn share_of(row: &SizeRow) -> Totals
-    requires { block_bytes row.now < 2 ^ 64 }
+    requires { block_bytes row.now.order < 2 ^ 64 }
     ensures { result ≡ share row.now }
 {
     Totals {
@@ -95,6 +96,18 @@ impl Ledger {
             encoded: before.encoded + share.encoded,
             blocks: before.blocks + share.blocks,
         };
+    }
+
+    /// Counts one more page after so many, as `add` does. These are below 65,536, and so the totals stay in range
+    /// whatever the pages take.
+    pub fn add_page(&mut self, pages: usize, row: SizeRow)
+        requires few { pages < 65536 }
+        requires known { HasKnownOrder row }
+        requires within { AreWithinPages pages self.old }
+        ensures added { self.new ≡ plus self.old (share row) }
+        ensures within { AreWithinPages (pages + 1) self.new }
+    {
+        self.add(&row);
     }
 
     /// Counts one page less: each total becomes smaller by the page's share.

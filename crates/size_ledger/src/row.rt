@@ -10,3 +10,19 @@ pub struct SizeRow {
     /// The bytes of its lines, encoded or kept as they are.
     pub encoded: u16,
 }
+
+impl SizeRow {
+    /// A page of zeros.
+    pub const ZEROS: SizeRow = SizeRow {
+        order: None,
+        exceptions: 0,
+        encoded: 0,
+    };
+
+    /// A page of plain bytes: 4,096 of them, in a block of as many.
+    pub const PLAIN: SizeRow = SizeRow {
+        order: Some(3),
+        exceptions: 0,
+        encoded: 4096,
+    };
+}

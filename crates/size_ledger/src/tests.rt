@@ -8,20 +8,10 @@ fn pages_come_and_go(rt: HostRuntime) {
         exceptions: 3,
         encoded: 314,
     };
-    let zeros = SizeRow {
-        order: None,
-        exceptions: 0,
-        encoded: 0,
-    };
-    let raw = SizeRow {
-        order: Some(3),
-        exceptions: 0,
-        encoded: 4096,
-    };
     let mut ledger = Ledger::new();
     ledger.add(&packed);
-    ledger.add(&zeros);
-    ledger.add(&raw);
+    ledger.add(&SizeRow::ZEROS);
+    ledger.add(&SizeRow::PLAIN);
     let three = Totals {
         zero: 1,
         c512: 1,

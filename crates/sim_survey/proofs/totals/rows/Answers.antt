@@ -6,7 +6,7 @@ use Rattle.rayon.proofs.ListFacts.{IfOk-then}
 use Rattle.rayon.proofs.ToStd.{nat_range-All}
 use Rattle.page_plan.specs.Pages.{page_of}
 use Rattle.sim_survey.specs.Filled.{page_count, lines_of_filled}
-use Rattle.sim_survey.specs.Rows.{row_of}
+use Rattle.page_plan.specs.Sizes.{row_of}
 use Rattle.sim_survey.proofs.TotalLemmas.{rows_of_range}
 use Rattle.sim_survey.proofs.totals.rows.Goals as goal
 

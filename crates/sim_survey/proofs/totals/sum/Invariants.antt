@@ -1,5 +1,6 @@
 use Rattle.std.proofs.Common.{◌≡◌, take}
-use Rattle.sim_survey.specs.Rows.{AreWithinPages, totals_of}
+use Rattle.size_ledger.specs.Ranges.{AreWithinPages}
+use Rattle.size_ledger.specs.Shares.{totals_of}
 use Rattle.sim_survey.proofs.totals.sum.Given as goal
 
 abbrev pub invariant-loop-page : goal.invariant-loop-page

@@ -1,8 +1,9 @@
 use Rattle.std.proofs.Common.{◌∙◌, ap}
 use Rattle.page_plan.specs.Pages.{pages_of}
 use Rattle.sim_survey.specs.Filled.{lines_of_filled}
-use Rattle.sim_survey.specs.Rows.{totals_of}
-use Rattle.sim_survey.proofs.TotalLemmas.{rows_known, rows_few, totals_are}
+use Rattle.size_ledger.specs.Shares.{totals_of}
+use Rattle.sim_survey.proofs.TotalLemmas.{rows_few, totals_are}
+use Rattle.page_plan.proofs.TotalLemmas.{rows_known}
 use Rattle.sim_survey.proofs.totals.survey.Goals as goal
 
 pub sum-requires-clause-few : goal.sum-requires-clause-few
