@@ -11,6 +11,7 @@ use Rattle.page_store.specs.declared.desc.Desc.{Desc}
 use Rattle.page_store.specs.declared.desc.Desc.TheVariants.{Zero, Packed, Raw}
 use Rattle.page_plan.specs.Sizes.{order_of}
 use Rattle.page_store.specs.PageBlocks.{block_of, block_at, IsAtPlan, IsNewBlock, moved, Outgrows, ComesToPlan, HasRoom, LacksRoom, IsIn, AreSound, IsFreeFor}
+use Rattle.page_store.proofs.ChangeLemmas.{kept_block, kept_units}
 use Rattle.page_store.specs.BlockChanges.{IsApartFrom, HasNoneBut, ChangesBlock}
 
 -- a fact of the value that there is
@@ -206,3 +207,15 @@ fresh_sound pages used free = record {
   apart = λ page other block others ne e f. absurd (none-some block (sym (block_at-zeros pages page) ∙ e));
   owned = λ unit busy. let none : in_use used unit ≡ 0 = free unit in absurd (omega arith);
 }
+
+-- a page that is at its plan comes to it as it is
+pub stays_at : (ds : List Desc) (used : List ℕ) (page : ℕ) (desc : Desc) (p : PagePlan) → AreSound ds used → slice_get ds page ≡ Some desc → IsAtPlan p desc → ComesToPlan ds used page p ds used
+stays_at ds used page desc p sound there at =
+    let block_is : block_at ds page ≡ block_of desc = block_at-get ds page desc there in
+    record {
+      desc = desc;
+      at_plan = at;
+      new_block = subst (λ o. IsNewBlock used (block_at ds page) o) block_is (kept_block used (block_at ds page));
+      descriptors_are = sym (ap (set ds page) (sym (get_or_from_slice_get ds page desc desc there)) ∙ set-get_or ds page desc);
+      used_is = kept_units used (block_at ds page) (block_live ds used page sound) ∙ ap (moved used (block_at ds page)) block_is;
+    }

@@ -6,7 +6,8 @@ use Rattle.std.proofs.lemmas.List.{length-set}
 use Rattle.std.proofs.lemmas.List.Sums.{sum_by-cons}
 use Rattle.std.proofs.lemmas.Option.{slice_get_within, none-some, same_Some}
 use Rattle.std.proofs.Math.Nat.{mul-le-mul_left}
-use Rattle.buddy_frames.specs.Units.{Place, place_at, past, IsPlace, AreApart}
+use Rattle.buddy_frames.specs.Units.{Place, place_at, past, in_use, IsPlace, IsFreeBlock, AreApart, IsCount}
+use Rattle.hier_types.specs.declared.faults.NoSpace.{NoSpace}
 use Rattle.buddy_frames.proofs.PlaceLemmas.{four, some_units}
 use Rattle.hier_types.specs.declared.settings.Codec.{Codec}
 use Rattle.page_plan.specs.declared.least.PagePlan.{PagePlan}
@@ -17,12 +18,12 @@ use Rattle.page_store.specs.declared.desc.Desc.{Desc}
 use Rattle.page_store.specs.declared.desc.Desc.TheVariants.{Zero, Packed, Raw}
 use Rattle.page_plan.specs.Pages.{page_of, plans_of}
 use Rattle.page_plan.specs.Sizes.{order_of}
-use Rattle.page_store.specs.PageBlocks.{block_of, block_at, IsAtPlan, IsFreeFor, IsIn}
+use Rattle.page_store.specs.PageBlocks.{block_of, block_at, AreSound, IsAtPlan, IsFreeFor, IsIn}
 use Rattle.page_store.specs.Store.{Store, IsSound, Sizing, sizing_of}
-use Rattle.page_store.specs.Crowds.{Tight, share, share_of_order}
+use Rattle.page_store.specs.Crowds.{Crowded, Tight, share, share_of_order}
 use Rattle.page_store.proofs.BlockLemmas.{block_at-same, block_at-other}
 use Rattle.page_store.proofs.ListLemmas.{get-set_same, get-set_other, sum_by-but_one}
-use Rattle.page_store.proofs.PageLemmas.{length-plans_of, plans_of-get}
+use Rattle.page_plan.proofs.PageLemmas.{length-plans_of, plans_of-get}
 use Rattle.page_store.proofs.CountLemmas.{holds, any_holds, weight, AreRuns, all_met}
 
 -- a block at its plan weighs the plan's share
@@ -195,3 +196,55 @@ tight_few sizing lines page k known lt tight =
       | inl fewer ↦ omega (arith, fewer, counted)
       | inr le ↦ absurd (omega (arith, mul-le-mul_left (2 ^ (3 - k)) le, bounded, tight, some))
     ]
+
+-- facts of an order and a greater one
+smaller_power : (order j : ℕ) → order ≤ j → j ≤ 3 → 2 ^ order ≤ 2 ^ j
+smaller_power order j le known =
+    four (λ j. order ≤ j → 2 ^ order ≤ 2 ^ j) j known
+    (λ l. four (λ k. k ≤ 0 → 2 ^ k ≤ 1) order (omega arith) (λ m. omega arith) (λ m. omega arith) (λ m. omega arith) (λ m. omega arith) l)
+    (λ l. four (λ k. k ≤ 1 → 2 ^ k ≤ 2) order (omega arith) (λ m. omega arith) (λ m. omega arith) (λ m. omega arith) (λ m. omega arith) l)
+    (λ l. four (λ k. k ≤ 2 → 2 ^ k ≤ 4) order (omega arith) (λ m. omega arith) (λ m. omega arith) (λ m. omega arith) (λ m. omega arith) l)
+    (λ l. four (λ k. k ≤ 3 → 2 ^ k ≤ 8) order (omega arith) (λ m. omega arith) (λ m. omega arith) (λ m. omega arith) (λ m. omega arith) l)
+    le
+
+inner_aligned : (order j unit : ℕ) → order ≤ j → j ≤ 3 → unit % 2 ^ j ≡ 0 → unit % 2 ^ order ≡ 0
+inner_aligned order j unit le known aligned =
+    four (λ j. order ≤ j → unit % 2 ^ j ≡ 0 → unit % 2 ^ order ≡ 0) j known
+    (λ l a. four (λ k. k ≤ 0 → unit % 2 ^ k ≡ 0) order (omega arith) (λ m. omega arith) (λ m. omega arith) (λ m. omega arith) (λ m. omega arith) l)
+    (λ l a. four (λ k. k ≤ 1 → unit % 2 ^ k ≡ 0) order (omega arith) (λ m. omega arith) (λ m. omega arith) (λ m. omega arith) (λ m. omega arith) l)
+    (λ l a. four (λ k. k ≤ 2 → unit % 2 ^ k ≡ 0) order (omega arith) (λ m. omega arith) (λ m. omega arith) (λ m. omega arith) (λ m. omega arith) l)
+    (λ l a. four (λ k. k ≤ 3 → unit % 2 ^ k ≡ 0) order (omega arith) (λ m. omega arith) (λ m. omega arith) (λ m. omega arith) (λ m. omega arith) l)
+    le aligned
+
+-- a place of an order has the first units of one of a greater order
+inner_place : (used : List ℕ) (order j unit : ℕ) → order ≤ j → IsPlace used (place_at j unit) → IsPlace used (place_at order unit)
+inner_place used order j unit le lies = record {
+  known = let known : j ≤ 3 = lies.known in omega arith;
+  aligned = inner_aligned order j unit le lies.known lies.aligned;
+  within = let past_is : unit + 2 ^ j ≤ 8 * length used = lies.within in
+      let smaller : 2 ^ order ≤ 2 ^ j = smaller_power order j le lies.known in
+      omega arith;
+}
+
+-- no block is free from the order on that a crowded store refused
+pub none_free : (s : Store) (refusal : NoSpace) (j unit : ℕ) → AreSound s.descriptors s.used → Crowded s refusal → refusal.order ≤ j → IsFreeBlock s.used (place_at j unit) → ⊥
+none_free s refusal j unit sound crowded le block =
+    let order = refusal.order in
+    let place = place_at order unit in
+    let inner : IsPlace s.used place = inner_place s.used order j unit le block.place_free.lies in
+    let smaller : 2 ^ order ≤ 2 ^ j = smaller_power order j le block.place_free.lies.known in
+    crowded.none unit (record {
+      lies = inner;
+      free = λ other held ne e.
+          let busy = sound.live other held e in
+          apart_from held place (some_units held.order busy.lies.known) (some_units order inner.known) (λ v in_held in_place.
+          let one : in_use s.used v ≡ 1 = busy.full v in_held.0 in_held.1 in
+          let zero_of : in_use s.used v ≡ 0 = block.place_free.free v in_place.0 (let behind : v < unit + 2 ^ order = in_place.1 in omega arith) in
+          omega arith);
+    })
+
+-- what no number meets is counted nowhere
+pub none_counted : (n : ℕ) (Meets : ℕ → Type 0) (count : ℕ) → ((i : ℕ) → Meets i → ⊥) → IsCount n Meets count → count ≡ 0
+none_counted zero Meets count none is = is
+none_counted (suc n) Meets count none (inl one) = absurd (none n one.0)
+none_counted (suc n) Meets count none (inr rest) = none_counted n Meets count none rest.1

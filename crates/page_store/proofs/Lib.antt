@@ -1,10 +1,9 @@
 pub mod ChangeLemmas
 pub mod BlockLemmas
-pub mod PageLemmas
 pub mod ListLemmas
 pub mod CountLemmas
 pub mod CrowdLemmas
 pub mod StoreLemmas
-pub mod SizeLemmas
 pub mod ContentLemmas
 pub mod OneLemmas
+pub mod TotalLemmas

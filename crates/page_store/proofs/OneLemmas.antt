@@ -67,22 +67,23 @@ rewrites_one s page lines counts t u one two =
     let held = block_at s.descriptors page in
     let desc : one.comes.desc ≡ two.comes.desc =
     desc_one s.used held (plan_of s.codec (page_of lines page)) one.comes.desc two.comes.desc one.comes.at_plan two.comes.at_plan one.comes.new_block two.comes.new_block in
-    let codec : t.codec ≡ u.codec = ap (λ k. k.codec) (one.sizing_stays ∙ sym two.sizing_stays) in
-    let lines_same : t.lines ≡ u.lines = one.lines_are ∙ sym two.lines_are in
+    let codec : t.codec ≡ u.codec = ap (λ k. k.codec) (one.outline.sizing_is ∙ sym two.outline.sizing_is) in
+    let meta : t.meta ≡ u.meta = ap (λ k. k.meta) (one.outline.sizing_is ∙ sym two.outline.sizing_is) in
+    let lines_same : t.lines ≡ u.lines = one.outline.lines_are ∙ sym two.outline.lines_are in
     let descriptors : t.descriptors ≡ u.descriptors = one.comes.descriptors_are ∙ ap (set s.descriptors page) desc ∙ sym two.comes.descriptors_are in
     let used : t.used ≡ u.used = one.comes.used_is ∙ ap (λ d. moved s.used held (block_of d)) desc ∙ sym two.comes.used_is in
     let counts_same : t.counts ≡ u.counts = one.counts_are ∙ sym two.counts_are in
     let stops : t.stops ≡ u.stops = one.stops_are ∙ sym two.stops_are in
-    let left : Store = record { codec = t.codec; lines = t.lines; descriptors = t.descriptors; used = t.used; counts = t.counts; stops = t.stops } in
-    let right : Store = record { codec = u.codec; lines = u.lines; descriptors = u.descriptors; used = u.used; counts = u.counts; stops = u.stops } in
+    let left : Store = record { codec = t.codec; lines = t.lines; descriptors = t.descriptors; used = t.used; meta = t.meta; counts = t.counts; stops = t.stops } in
+    let right : Store = record { codec = u.codec; lines = u.lines; descriptors = u.descriptors; used = u.used; meta = u.meta; counts = u.counts; stops = u.stops } in
     let same : left ≡ right = cc in
     same
 
 -- two refusals of lines
 refused_one : (s : Store) (page : ℕ) (lines : List (List ℕ)) (a c : NoSpace) (t u : Store) → Refused s page lines a t → Refused s page lines c u → (a ≡ c) × (t ≡ u)
 refused_one s page lines a c t u one two =
-    let page_same : a.page.0 ≡ c.page.0 = one.page_is ∙ sym two.page_is in
-    let order : a.order ≡ c.order = same_Some a.order c.order (sym one.order_is ∙ two.order_is) in
+    let page_same : a.page.0 ≡ c.page.0 = one.cause.page_is ∙ sym two.cause.page_is in
+    let order : a.order ≡ c.order = same_Some a.order c.order (sym one.cause.order_is ∙ two.cause.order_is) in
     let left : NoSpace = record { page = record { 0 = a.page.0 }; order = a.order } in
     let right : NoSpace = record { page = record { 0 = c.page.0 }; order = c.order } in
     let same : left ≡ right = cc in
@@ -91,13 +92,13 @@ refused_one s page lines a c t u one two =
 -- lines are not both granted and refused
 granted_refused : (s : Store) (page : ℕ) (lines : List (List ℕ)) (counts : PageCounts) (refusal : NoSpace) (t u : Store) → Rewrites s page lines counts t → Refused s page lines refusal u → ⊥
 granted_refused s page lines counts refusal t u one two =
-    let room = one.granted refusal.order two.order_is in
-    let none : (unit : ℕ) → IsFreeFor s.descriptors s.used page (place_at refusal.order unit) → ⊥ = rw (two.unchanged, two.page_is) at two.crowded.none in
+    let room = one.granted refusal.order two.cause.order_is in
+    let none : (unit : ℕ) → IsFreeFor s.descriptors s.used page (place_at refusal.order unit) → ⊥ = rw (two.unchanged, two.cause.page_is) at two.crowded.none in
     none room.0 room.1
 
 -- a read
 pub store_read_one : (s : Store) (line : ℕ) (a c : Result (List ℕ) NoSpace) (t u : Store) → StoreRead s line a t → StoreRead s line c u → (a ≡ c) × (t ≡ u)
-store_read_one s line (Ok bytes) (Ok others) t u one two = (ap Ok (same_Some bytes others (sym one.0 ∙ two.0)), one.1 ∙ sym two.1)
+store_read_one s line (Ok bytes) (Ok others) t u one two = (ap Ok (same_Some bytes others (sym one.bytes_are ∙ two.bytes_are)), one.rest ∙ sym two.rest)
 store_read_one s line (Ok bytes) (Err refusal) t u one two = absurd two
 store_read_one s line (Err refusal) c t u one two = absurd one
 

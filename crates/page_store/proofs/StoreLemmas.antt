@@ -1,10 +1,9 @@
 -- A store whose lines change in one page.
-use Rattle.std.proofs.Common.{◌≡◌, ◌≢◌, ◌<◌, ◌≤◌, ◌+◌, ◌-◌, ◌*◌, ◌/◌, ◌%◌, ◌∙◌, ℕ, Option, Some, Ok, Err, List, [], ◌++◌, length, get_or, set, take, drop, replicate, slice_get, IfSome, refl, sym, ap, subst, inl, inr, arith}
+use Rattle.std.proofs.Common.{◌≡◌, ◌≢◌, ◌<◌, ◌≤◌, ◌+◌, ◌-◌, ◌*◌, ◌/◌, ◌%◌, ◌∙◌, ℕ, Some, Ok, Err, List, [], ◌++◌, length, get_or, set, take, drop, replicate, slice_get, refl, sym, ap, subst, inl, inr, arith}
 use Rattle.std.proofs.lemmas.Bool.{cases_eq}
-use Rattle.std.proofs.lemmas.List.{set-get_or, get_or_read, length-set, length-drop, length-replicate, length-take-le, map-set, drop-replicate, take-replicate, get_or-replicate}
+use Rattle.std.proofs.lemmas.List.{length-set, length-drop, length-replicate, length-take-le, map-set, drop-replicate, take-replicate, get_or-replicate}
 use Rattle.std.proofs.lemmas.List.Elements.{All-append, All-take, All-drop, All-replicate}
 use Rattle.std.proofs.lemmas.Option.{same_Some, slice_get_read, slice_get_within, slice_get-get_or, get_or_from_slice_get}
-use Rattle.buddy_frames.specs.Units.{IsUsedPlace}
 use Rattle.hier_types.specs.Lines.{AreLines, zero_line}
 use Rattle.hier_types.specs.Calls.{Answer}
 use Rattle.hier_types.specs.Causes.{raised}
@@ -13,170 +12,198 @@ use Rattle.hier_types.specs.declared.faults.NoSpace.{NoSpace}
 use Rattle.hier_types.specs.declared.settings.Codec.{Codec}
 use Rattle.hier_types.proofs.TableLemmas.{length-tabulate, get_or-tabulate}
 use Rattle.hier_types.proofs.LineLemmas.{lines-set}
-use Rattle.line_codec.specs.Slots.{stored}
 use Rattle.page_plan.specs.declared.least.PagePlan.{PagePlan}
 use Rattle.page_plan.specs.declared.least.PagePlan.TheVariants as plan
-use Rattle.page_plan.specs.Layout.{stored_sizes}
+use Rattle.page_plan.specs.KeptSizes.{kept_size, kept_sizes}
 use Rattle.page_plan.specs.PagePlan.{plan_of}
 use Rattle.page_plan.proofs.PlanLemmas.{IsPlan-plan_of, only_plan}
 use Rattle.page_store.specs.declared.desc.Desc.{Desc}
 use Rattle.page_store.specs.declared.desc.Desc.TheVariants.{Zero}
-use Rattle.page_plan.specs.Pages.{page_of}
-use Rattle.page_store.specs.Pages.{with_page, lines_of_page}
+use Rattle.page_plan.specs.Pages.{lines_of_page, page_of, with_page}
 use Rattle.page_plan.specs.Sizes.{order_of}
-use Rattle.page_store.specs.PageBlocks.{block_of, block_at, moved, IsNewBlock, IsAtPlan, AreSound, ComesToPlan, HasRoom, LacksRoom}
-use Rattle.page_store.specs.Store.{Store, HasZero, IsSound, AreSizes, IsKept, sizing_of}
-use Rattle.page_plan.specs.Sizes.{sizes_of_memory}
-use Rattle.page_store.specs.KeptSizes.{totals_kept}
-use Rattle.page_store.specs.Calls.{Refused, Rewrites, PlacesPage}
-use Rattle.page_store.proofs.ChangeLemmas.{kept_block, kept_units}
-use Rattle.page_store.proofs.BlockLemmas.{block_at-get, block_live, had_room}
+use Rattle.page_store.specs.PageBlocks.{IsAtPlan, AreSound, ComesToPlan, HasRoom, LacksRoom}
+use Rattle.page_store.specs.Store.{Store, HasZero, AreSizes, IsKept, sizing_of}
+use Rattle.page_store.specs.Calls.{PlacesPage, Refused, Rewrites}
+use Rattle.page_store.proofs.BlockLemmas.{had_room}
 use Rattle.page_store.proofs.CrowdLemmas.{small_order, crowded_tight, tight_few}
 use Rattle.page_store.proofs.ListLemmas.{get-set_same, get-set_other}
-use Rattle.page_store.proofs.PageLemmas.{length-with_page, page_of-set, page_of-with, page_of-with_other, length-pages_of, pages_of-is}
-use Rattle.page_store.proofs.SizeLemmas.{totals_are}
+use Rattle.page_plan.proofs.PageLemmas.{with_page-set, length-with_page, page_of-set, page_of-with, page_of-with_other}
 
-module _ (s : Store) (sizes : List (List (Option ℕ))) (kept : IsKept s sizes) (page : ℕ) (within : page < length s.descriptors) where
-  inside : 64 * page + 64 ≤ length s.lines
-  inside = let whole : length s.lines ≡ 64 * length s.descriptors = kept.sound.whole in omega arith
+-- lines that are new in one page alone
+pub record AreNewIn (before : List (List ℕ)) (page : ℕ) (after : List (List ℕ)) : Type 0 where
+  pub same : length after ≡ length before
+  pub lines_are : AreLines after
+  pub others : (q : ℕ) → q ≢ page → page_of after q ≡ page_of before q
 
-  module _ (others : List (List ℕ)) (whole : length others ≡ 64) (are_lines : AreLines others) where
-    lines_after : AreLines (with_page s.lines page others)
-    lines_after =
-        All-append (λ line. length line ≡ 64) (take (64 * page) s.lines ++ others) (drop (64 * page + 64) s.lines)
-        (All-append (λ line. length line ≡ 64) (take (64 * page) s.lines) others (All-take (λ line. length line ≡ 64) (64 * page) s.lines kept.sound.lines_are) are_lines)
-        (All-drop (λ line. length line ≡ 64) (64 * page + 64) s.lines kept.sound.lines_are)
+-- another page's lines
+pub page_new : (lines : List (List ℕ)) (page : ℕ) (others : List (List ℕ)) → 64 * page + 64 ≤ length lines → length others ≡ 64 → AreLines lines → AreLines others
+    → AreNewIn lines page (with_page lines page others)
+page_new lines page others inside whole are are_others = record {
+  same = length-with_page lines page others inside whole;
+  lines_are =
+      All-append (λ line. length line ≡ 64) (take (64 * page) lines ++ others) (drop (64 * page + 64) lines)
+      (All-append (λ line. length line ≡ 64) (take (64 * page) lines) others (All-take (λ line. length line ≡ 64) (64 * page) lines are) are_others)
+      (All-drop (λ line. length line ≡ 64) (64 * page + 64) lines are);
+  others = page_of-with_other lines page others inside whole;
+}
 
-    here : page_of (with_page s.lines page others) page ≡ others
-    here = page_of-with s.lines page others inside whole
+-- another line
+pub line_new : (lines : List (List ℕ)) (i : ℕ) (bytes : List ℕ) → 64 * (i / 64) + 64 ≤ length lines → AreLines lines → length bytes ≡ 64 → AreNewIn lines (i / 64) (set lines i bytes)
+line_new lines i bytes inside are full =
+    let page = i / 64 in
+    let others = page_of (set lines i bytes) page in
+    let whole : length others ≡ 64 = length-take-le 64 (drop (64 * page) (set lines i bytes)) (omega (arith, length-drop (64 * page) (set lines i bytes), length-set lines i bytes)) in
+    record {
+      same = length-set lines i bytes;
+      lines_are = lines-set lines i bytes are full;
+      others = λ q ne. ap (λ l. page_of l q) (sym (with_page-set lines i bytes)) ∙ page_of-with_other lines page others inside whole q ne;
+    }
 
-    -- the relation of the call
-    pub rewrites : (ds : List Desc) (used : List ℕ) (p : PagePlan) (t : Store) → p ≡ plan_of s.codec others → ComesToPlan s.descriptors s.used page p ds used
-        → length used ≡ length s.used → AreSound ds used
-        → t ≡ record { codec = s.codec; lines = with_page s.lines page others; descriptors = ds; used = used; counts = s.counts; stops = s.stops }
-        → Rewrites s page (with_page s.lines page others) s.counts t
-    rewrites ds used p t planned comes frames sound is =
-        let plan_is : p ≡ plan_of s.codec (page_of (with_page s.lines page others) page) = planned ∙ ap (plan_of s.codec) (sym here) in
-        rw is (record {
-          lines_are = refl;
-          comes = subst (λ q. ComesToPlan s.descriptors s.used page q ds used) plan_is comes;
-          granted = subst (HasRoom s.descriptors s.used page) plan_is (had_room s.descriptors s.used page p ds used within frames comes sound);
-          counts_are = refl;
-          stops_are = refl;
-          sizing_stays = ap (λ n. record { codec = s.codec; frames = n }) frames;
-          pages_stay = ap length comes.descriptors_are ∙ length-set s.descriptors page comes.desc;
-        })
-
-    -- the store stays as it is to be kept
-    pub kept_after : (new : List (Option ℕ)) (ds : List Desc) (used : List ℕ) (p : PagePlan) → stored_sizes s.codec others ≡ new → p ≡ plan_of s.codec others
-        → ComesToPlan s.descriptors s.used page p ds used → AreSound ds used
-        → IsKept (record { codec = s.codec; lines = with_page s.lines page others; descriptors = ds; used = used; counts = s.counts; stops = s.stops }) (set sizes page new)
-    kept_after new ds used p sized planned comes sound =
-        let same_pages : length ds ≡ length s.descriptors = ap length comes.descriptors_are ∙ length-set s.descriptors page comes.desc in
-        let lines_counted = length-with_page s.lines page others inside whole in
-        let some : 1 ≤ length s.descriptors = kept.sound.some in
-        let most : length s.descriptors ≤ 65536 = kept.sound.most in
-        let before : length s.lines ≡ 64 * length s.descriptors = kept.sound.whole in
-        let counted : length sizes ≡ length s.descriptors = kept.counted in
-        record {
-          sound = record {
-            some = omega arith;
-            most = omega arith;
-            whole = omega (arith, lines_counted);
-            lines_are = lines_after;
-            at_plan = λ q desc e. elim (cases_eq q page) [
-              | inl same ↦
-                  let is : comes.desc ≡ desc =
-                  same_Some comes.desc desc (sym (get-set_same s.descriptors page comes.desc within) ∙ ap (λ xs. slice_get xs page) (sym comes.descriptors_are)
-                  ∙ ap (slice_get ds) (sym same) ∙ e) in
-                  let at : IsAtPlan (plan_of s.codec (page_of (with_page s.lines page others) page)) comes.desc =
-                  subst (λ r. IsAtPlan r comes.desc) (planned ∙ ap (plan_of s.codec) (sym here)) comes.at_plan in
-                  subst (λ (r : ℕ). IsAtPlan (plan_of s.codec (page_of (with_page s.lines page others) r)) desc) (sym same)
-                  (subst (λ d. IsAtPlan (plan_of s.codec (page_of (with_page s.lines page others) page)) d) is at)
-              | inr ne ↦
-                  let there : slice_get s.descriptors q ≡ Some desc =
-                  sym (get-set_other s.descriptors page q comes.desc ne) ∙ ap (λ xs. slice_get xs q) (sym comes.descriptors_are) ∙ e in
-                  subst (λ lines. IsAtPlan (plan_of s.codec lines) desc) (sym (page_of-with_other s.lines page others inside whole q ne)) (kept.sound.at_plan q desc there)
-            ];
-            blocks_are = sound;
-          };
-          counted = length-set sizes page new ∙ counted ∙ sym same_pages;
-          sized = λ q lt. elim (cases_eq q page) [
-            | inl same ↦
-                let own : slice_get (set sizes page new) page ≡ Some (stored_sizes s.codec (page_of (with_page s.lines page others) page)) =
-                get-set_same sizes page new (omega arith) ∙ ap Some (sym sized ∙ ap (stored_sizes s.codec) (sym here)) in
-                subst (λ (r : ℕ). slice_get (set sizes page new) r ≡ Some (stored_sizes s.codec (page_of (with_page s.lines page others) r))) (sym same) own
-            | inr ne ↦
-                let before_lt : q < length sizes = omega (arith, length-set sizes page new) in
-                get-set_other sizes page q new ne ∙ kept.sized q before_lt ∙ ap (λ lines. Some (stored_sizes s.codec lines)) (sym (page_of-with_other s.lines page others inside whole q ne))
-          ];
-        }
-
-    -- a refusal
-    pub refuses : (order : ℕ) (p : PagePlan) (refusal : NoSpace) (t : Store) → p ≡ plan_of s.codec others → LacksRoom s.descriptors s.used page p order
-        → refusal.page.0 ≡ page → refusal.order ≡ order → t ≡ record s { stops = raised s.stops } → Refused s page (with_page s.lines page others) refusal t
-    refuses order p refusal t planned lacks page_is order_is unchanged =
-        let plan_is : plan_of s.codec (page_of (with_page s.lines page others) page) ≡ p = ap (plan_of s.codec) here ∙ sym planned in
-        let known : order ≤ 3 = small_order s.codec others (plan_of s.codec others) order (IsPlan-plan_of s.codec others) (ap order_of (sym planned) ∙ lacks.order_is) in
-        let at_plan : (i : ℕ) (desc : Desc) → i ≢ page → slice_get s.descriptors i ≡ Some desc → IsAtPlan (plan_of s.codec (page_of s.lines i)) desc = λ i desc ne e. kept.sound.at_plan i desc e in
-        let tight = crowded_tight s kept.sound page within order known at_plan lacks.none in
-        let before : length s.lines ≡ 64 * length s.descriptors = kept.sound.whole in
-        let in_lines : page < length s.lines / 64 = omega arith in
-        rw (unchanged, page_is, order_is) (record {
-          page_is = refl;
-          order_is = ap order_of plan_is ∙ lacks.order_is;
-          outgrown = lacks.outgrown;
-          crowded = record { at_plan = at_plan; none = lacks.none };
-          tight = tight;
-          few = omega (arith, tight_few (sizing_of s) s.lines page order known in_lines tight, before);
-          unchanged = refl;
-        })
-
--- the lines of a page, one of which was changed
-pub changed_lines : (lines : List (List ℕ)) (i : ℕ) (bytes : List ℕ) → AreLines lines → length bytes ≡ 64 → AreLines (page_of (set lines i bytes) (i / 64))
-changed_lines lines i bytes are full =
-    All-take (λ line. length line ≡ 64) 64 (drop (64 * (i / 64)) (set lines i bytes))
-    (All-drop (λ line. length line ≡ 64) (64 * (i / 64)) (set lines i bytes) (lines-set lines i bytes are full))
-
--- and their sizes
-pub changed_sizes : (codec : Codec) (lines : List (List ℕ)) (i : ℕ) (bytes : List ℕ) (sizes : List (List (Option ℕ))) (before : List (Option ℕ)) → AreSizes codec lines sizes
+-- the sizes of a page, one of whose lines was changed
+pub changed_sizes : (codec : Codec) (lines : List (List ℕ)) (i : ℕ) (bytes : List ℕ) (sizes : List (List ℕ)) (before : List ℕ) → AreSizes codec lines sizes
     → i / 64 < length sizes → before ≡ get_or sizes (i / 64) before
-    → stored_sizes codec (page_of (set lines i bytes) (i / 64)) ≡ set before (i % 64) (stored codec bytes)
+    → set before (i % 64) (kept_size codec bytes) ≡ kept_sizes codec (page_of (set lines i bytes) (i / 64))
 changed_sizes codec lines i bytes sizes before sized lt read =
     let there : slice_get sizes (i / 64) ≡ Some before = slice_get_read sizes (length sizes) (i / 64) before refl lt read in
-    let is : before ≡ stored_sizes codec (page_of lines (i / 64)) = same_Some before (stored_sizes codec (page_of lines (i / 64))) (sym there ∙ sized (i / 64) lt) in
-    ap (stored_sizes codec) (page_of-set lines i bytes) ∙ map-set (stored codec) (page_of lines (i / 64)) (i % 64) bytes
-    ∙ ap (λ xs. set xs (i % 64) (stored codec bytes)) (sym is)
+    let is : before ≡ kept_sizes codec (page_of lines (i / 64)) = same_Some before (kept_sizes codec (page_of lines (i / 64))) (sym there ∙ sized (i / 64) lt) in
+    sym (ap (kept_sizes codec) (page_of-set lines i bytes) ∙ map-set (kept_size codec) (page_of lines (i / 64)) (i % 64) bytes
+    ∙ ap (λ xs. set xs (i % 64) (kept_size codec bytes)) (sym is))
 
--- a write of the bytes that are there changes nothing
-pub same_lines : (lines : List (List ℕ)) (i : ℕ) (read bytes : List ℕ) → i < length lines → read ≡ get_or lines i read → read ≡ bytes → set lines i bytes ≡ lines
-same_lines lines i read bytes lt is same =
-    ap (set lines i) (sym same ∙ get_or_read lines i read lt is []) ∙ set-get_or lines i []
+-- a page comes to lines, of these sizes and with this plan
+pub record IsPlanned (s : Store) (page : ℕ) (lines : List (List ℕ)) (own : List ℕ) (p : PagePlan) : Type 0 where
+  pub within : page < length s.descriptors
+  pub new : AreNewIn s.lines page lines
+  pub sized : own ≡ kept_sizes s.codec (page_of lines page)
+  pub plan_is : p ≡ plan_of s.codec (page_of lines page)
 
--- a page whose lines stay is at its plan as it is
-pub stays : (s : Store) (page : ℕ) (lines : List (List ℕ)) (counts : PageCounts) (t : Store) → IsSound s → page < length s.descriptors → lines ≡ s.lines
-    → t ≡ record s { counts = counts } → Rewrites s page lines counts t
-stays s page lines counts t sound within same is =
-    let desc = get_or s.descriptors page Zero in
-    let there : slice_get s.descriptors page ≡ Some desc = slice_get-get_or s.descriptors page Zero within in
-    let block_is : block_at s.descriptors page ≡ block_of desc = block_at-get s.descriptors page desc there in
-    let live : IfSome (block_at s.descriptors page) (IsUsedPlace s.used) = block_live s.descriptors s.used page sound.blocks_are in
-    let comes : ComesToPlan s.descriptors s.used page (plan_of s.codec (page_of s.lines page)) s.descriptors s.used = record {
-      desc = desc;
-      at_plan = sound.at_plan page desc there;
-      new_block = subst (λ o. IsNewBlock s.used (block_at s.descriptors page) o) block_is (kept_block s.used (block_at s.descriptors page));
-      descriptors_are = sym (set-get_or s.descriptors page Zero);
-      used_is = kept_units s.used (block_at s.descriptors page) live ∙ ap (moved s.used (block_at s.descriptors page)) block_is;
-    } in
-    rw (is, same) (record {
-      lines_are = refl;
-      comes = comes;
-      granted = had_room s.descriptors s.used page (plan_of s.codec (page_of s.lines page)) s.descriptors s.used within refl comes sound.blocks_are;
-      counts_are = refl;
-      stops_are = refl;
-      sizing_stays = refl;
-      pages_stay = refl;
-    })
+-- the lines of one page have 64 bytes
+pub lines_of_one : (lines : List (List ℕ)) (page : ℕ) → AreLines lines → AreLines (page_of lines page)
+lines_of_one lines page are = All-take (λ line. length line ≡ 64) 64 (drop (64 * page) lines) (All-drop (λ line. length line ≡ 64) (64 * page) lines are)
+
+-- what a plan by sizes says
+abbrev pub IsPlanOf : List ℕ → PagePlan → Type 0
+IsPlanOf own p = (codec : Codec) (lines : List (List ℕ)) → AreLines lines → kept_sizes codec lines ≡ own → p ≡ plan_of codec lines
+
+-- one line is changed
+pub line_planned : (s : Store) (sizes : List (List ℕ)) (i : ℕ) (bytes before own : List ℕ) (p : PagePlan) → IsKept s sizes → i < length s.lines → length bytes ≡ 64
+    → before ≡ get_or sizes (i / 64) before → own ≡ set before (i % 64) (kept_size s.codec bytes) → IsPlanOf own p → IsPlanned s (i / 64) (set s.lines i bytes) own p
+line_planned s sizes i bytes before own p kept within full read is plans =
+    let whole : length s.lines ≡ 64 * length s.descriptors = kept.sound.whole in
+    let counted : length sizes ≡ length s.descriptors = kept.counted in
+    let sized = is ∙ changed_sizes s.codec s.lines i bytes sizes before kept.sized (omega arith) read in
+    let new = line_new s.lines i bytes (omega arith) kept.sound.lines_are full in
+    record {
+      within = omega arith;
+      new = new;
+      sized = sized;
+      plan_is = plans s.codec (page_of (set s.lines i bytes) (i / 64)) (lines_of_one (set s.lines i bytes) (i / 64) new.lines_are) (sym sized);
+    }
+
+-- a page is placed
+pub page_planned : (s : Store) (sizes : List (List ℕ)) (page : ℕ) (others : List (List ℕ)) (own : List ℕ) (p : PagePlan) → IsKept s sizes → HasZero s page → length others ≡ 64
+    → AreLines others → own ≡ kept_sizes s.codec others → IsPlanOf own p → IsPlanned s page (with_page s.lines page others) own p
+page_planned s sizes page others own p kept zero full are is plans =
+    let whole : length s.lines ≡ 64 * length s.descriptors = kept.sound.whole in
+    let within = slice_get_within s.descriptors page Zero zero in
+    let inside : 64 * page + 64 ≤ length s.lines = omega (arith, within) in
+    let here : page_of (with_page s.lines page others) page ≡ others = page_of-with s.lines page others inside full in
+    let sized = is ∙ ap (kept_sizes s.codec) (sym here) in
+    let new = page_new s.lines page others inside full kept.sound.lines_are are in
+    record {
+      within = within;
+      new = new;
+      sized = sized;
+      plan_is = plans s.codec (page_of (with_page s.lines page others) page) (lines_of_one (with_page s.lines page others) page new.lines_are) (sym sized);
+    }
+
+module _ (s : Store) (sizes : List (List ℕ)) (kept : IsKept s sizes) (page : ℕ) (lines : List (List ℕ)) (own : List ℕ) (p : PagePlan) (planned : IsPlanned s page lines own p) where
+  -- the store after the change
+  abbrev pub after : List Desc → List ℕ → PageCounts → Store
+  after ds used counts = record s { lines = lines; descriptors = ds; used = used; counts = counts }
+
+  -- the relation of the call
+  pub rewrites : (ds : List Desc) (used : List ℕ) (counts : PageCounts) (t : Store) → ComesToPlan s.descriptors s.used page p ds used → length used ≡ length s.used → AreSound ds used → counts.mover_turns ≡ s.counts.mover_turns
+      → t ≡ after ds used counts → Rewrites s page lines counts t
+  rewrites ds used counts t comes frames sound turns is =
+      rw is (record {
+        outline = record {
+          lines_are = refl;
+          reads_are = refl;
+          writes_are = refl;
+          turns_stay = turns;
+          sizing_is = ap (λ n. record { codec = s.codec; frames = n; meta = s.meta }) frames;
+          pages_stay = ap length comes.descriptors_are ∙ length-set s.descriptors page comes.desc;
+          zeros_stay = λ other ne zero. ap (λ d. slice_get d other) comes.descriptors_are ∙ get-set_other s.descriptors page other comes.desc ne ∙ zero;
+        };
+        comes = subst (λ q. ComesToPlan s.descriptors s.used page q ds used) planned.plan_is comes;
+        granted = subst (HasRoom s.descriptors s.used page) planned.plan_is (had_room s.descriptors s.used page p ds used planned.within frames comes sound);
+        counts_are = refl;
+        stops_are = refl;
+      })
+
+  -- the store stays as it is to be kept
+  pub kept_after : (ds : List Desc) (used : List ℕ) (counts : PageCounts) → ComesToPlan s.descriptors s.used page p ds used → AreSound ds used → IsKept (after ds used counts) (set sizes page own)
+  kept_after ds used counts comes sound =
+      let same_pages : length ds ≡ length s.descriptors = ap length comes.descriptors_are ∙ length-set s.descriptors page comes.desc in
+      let counted : length sizes ≡ length s.descriptors = kept.counted in
+      record {
+        sound = record {
+          some = subst (λ n. 1 ≤ n) (sym same_pages) kept.sound.some;
+          most = subst (λ n. n ≤ 65536) (sym same_pages) kept.sound.most;
+          whole = planned.new.same ∙ kept.sound.whole ∙ ap (λ n. 64 * n) (sym same_pages);
+          lines_are = planned.new.lines_are;
+          blocks_are = sound;
+        };
+        at_plan = λ q desc e. elim (cases_eq q page) [
+          | inl same ↦
+              let is : comes.desc ≡ desc =
+              same_Some comes.desc desc (sym (get-set_same s.descriptors page comes.desc planned.within) ∙ ap (λ xs. slice_get xs page) (sym comes.descriptors_are)
+              ∙ ap (slice_get ds) (sym same) ∙ e) in
+              let at : IsAtPlan (plan_of s.codec (page_of lines page)) comes.desc = subst (λ r. IsAtPlan r comes.desc) planned.plan_is comes.at_plan in
+              subst (λ (r : ℕ). IsAtPlan (plan_of s.codec (page_of lines r)) desc) (sym same) (subst (λ d. IsAtPlan (plan_of s.codec (page_of lines page)) d) is at)
+          | inr ne ↦
+              let there : slice_get s.descriptors q ≡ Some desc =
+              sym (get-set_other s.descriptors page q comes.desc ne) ∙ ap (λ xs. slice_get xs q) (sym comes.descriptors_are) ∙ e in
+              subst (λ l. IsAtPlan (plan_of s.codec l) desc) (sym (planned.new.others q ne)) (kept.at_plan q desc there)
+        ];
+        counted = length-set sizes page own ∙ counted ∙ sym same_pages;
+        sized = λ q lt. elim (cases_eq q page) [
+          | inl same ↦
+              let there : slice_get (set sizes page own) page ≡ Some (kept_sizes s.codec (page_of lines page)) = get-set_same sizes page own (let within : page < length s.descriptors = planned.within in omega arith) ∙ ap Some planned.sized in
+              subst (λ (r : ℕ). slice_get (set sizes page own) r ≡ Some (kept_sizes s.codec (page_of lines r))) (sym same) there
+          | inr ne ↦
+              let before_lt : q < length sizes = omega (arith, length-set sizes page own) in
+              get-set_other sizes page q own ne ∙ kept.sized q before_lt ∙ ap (λ l. Some (kept_sizes s.codec l)) (sym (planned.new.others q ne))
+        ];
+      }
+
+  -- a refusal
+  pub refuses : (order : ℕ) (refusal : NoSpace) (t : Store) → LacksRoom s.descriptors s.used page p order
+      → refusal.page.0 ≡ page → refusal.order ≡ order → t ≡ record s { stops = raised s.stops } → Refused s page lines refusal t
+  refuses order refusal t lacks page_is order_is unchanged =
+      let here = page_of lines page in
+      let known : order ≤ 3 = small_order s.codec here (plan_of s.codec here) order (IsPlan-plan_of s.codec here) (ap order_of (sym planned.plan_is) ∙ lacks.order_is) in
+      let at_plan : (i : ℕ) (desc : Desc) → i ≢ page → slice_get s.descriptors i ≡ Some desc → IsAtPlan (plan_of s.codec (page_of s.lines i)) desc = λ i desc ne e. kept.at_plan i desc e in
+      let tight = crowded_tight s kept.sound page planned.within order known at_plan lacks.none in
+      let before : length s.lines ≡ 64 * length s.descriptors = kept.sound.whole in
+      let within : page < length s.descriptors = planned.within in
+      let in_lines : page < length s.lines / 64 = omega arith in
+      rw (unchanged, page_is, order_is) (record {
+        outline = record {
+          lines_are = refl;
+          reads_are = refl;
+          writes_are = refl;
+          turns_stay = refl;
+          sizing_is = refl;
+          pages_stay = refl;
+          zeros_stay = λ other ne zero. zero;
+        };
+        cause = record { page_is = refl; order_is = ap order_of (sym planned.plan_is) ∙ lacks.order_is; tight = tight };
+        outgrown = lacks.outgrown;
+        crowded = record { at_plan = at_plan; none = lacks.none };
+        few = omega (arith, tight_few (sizing_of s) s.lines page order known in_lines tight, before);
+        unchanged = refl;
+      })
 
 -- the lines of a page's bytes
 pub lines_of_page_are : (bytes : List ℕ) → length bytes ≡ 4096 → AreLines (lines_of_page bytes)
@@ -193,10 +220,10 @@ zero_plan : (codec : Codec) → plan.Zero ≡ plan_of codec (replicate 64 zero_l
 zero_plan codec = only_plan codec (replicate 64 zero_line) plan.Zero (All-replicate (λ line. line ≡ zero_line) 64 zero_line refl)
 
 -- the store at its start
-pub kept_fresh : (codec : Codec) (pages : ℕ) (used : List ℕ) (counts : PageCounts) → 1 ≤ pages → pages ≤ 65536 → AreSound (replicate pages Zero) used
-    → IsKept (record { codec = codec; lines = replicate (64 * pages) zero_line; descriptors = replicate pages Zero; used = used; counts = counts; stops = 0 })
-    (replicate pages (stored_sizes codec (replicate 64 zero_line)))
-kept_fresh codec pages used counts some most sound =
+pub kept_fresh : (codec : Codec) (pages : ℕ) (used : List ℕ) (meta : ℕ) (counts : PageCounts) → 1 ≤ pages → pages ≤ 65536 → AreSound (replicate pages Zero) used
+    → IsKept (record { codec = codec; lines = replicate (64 * pages) zero_line; descriptors = replicate pages Zero; used = used; meta = meta; counts = counts; stops = 0 })
+    (replicate pages (kept_sizes codec (replicate 64 zero_line)))
+kept_fresh codec pages used meta counts some most sound =
     let counted : length (replicate pages Zero) ≡ pages = length-replicate pages Zero in
     record {
       sound = record {
@@ -204,34 +231,22 @@ kept_fresh codec pages used counts some most sound =
         most = omega arith;
         whole = length-replicate (64 * pages) zero_line ∙ ap (λ n. 64 * n) (sym counted);
         lines_are = All-replicate (λ line. length line ≡ 64) (64 * pages) zero_line refl;
-        at_plan = λ page desc e.
-            let lt : page < pages = omega (arith, slice_get_within (replicate pages Zero) page desc e) in
-            let is : Zero ≡ desc = sym (get_or-replicate pages page Zero desc lt) ∙ get_or_from_slice_get (replicate pages Zero) page desc desc e in
-            let planned : plan.Zero ≡ plan_of codec (page_of (replicate (64 * pages) zero_line) page) = zero_plan codec ∙ ap (plan_of codec) (sym (zero_page pages page lt)) in
-            subst (λ p. IsAtPlan p desc) planned (subst (λ d. IsAtPlan plan.Zero d) is tt);
         blocks_are = sound;
       };
-      counted = length-replicate pages (stored_sizes codec (replicate 64 zero_line)) ∙ sym counted;
+      at_plan = λ page desc e.
+          let lt : page < pages = omega (arith, slice_get_within (replicate pages Zero) page desc e) in
+          let is : Zero ≡ desc = sym (get_or-replicate pages page Zero desc lt) ∙ get_or_from_slice_get (replicate pages Zero) page desc desc e in
+          let planned : plan.Zero ≡ plan_of codec (page_of (replicate (64 * pages) zero_line) page) = zero_plan codec ∙ ap (plan_of codec) (sym (zero_page pages page lt)) in
+          subst (λ p. IsAtPlan p desc) planned (subst (λ d. IsAtPlan plan.Zero d) is tt);
+      counted = length-replicate pages (kept_sizes codec (replicate 64 zero_line)) ∙ sym counted;
       sized = λ page lt.
-          let sizes = stored_sizes codec (replicate 64 zero_line) in
+          let sizes = kept_sizes codec (replicate 64 zero_line) in
           let below : page < pages = omega (arith, length-replicate pages sizes) in
           slice_get-get_or (replicate pages sizes) page [] lt ∙ ap Some (get_or-replicate pages page sizes [] below)
-          ∙ ap (λ lines. Some (stored_sizes codec lines)) (sym (zero_page pages page below));
+          ∙ ap (λ lines. Some (kept_sizes codec lines)) (sym (zero_page pages page below));
     }
-
--- the totals of a store
-pub store_totals : (s : Store) (sizes : List (List (Option ℕ))) → IsKept s sizes → totals_kept s.descriptors sizes ≡ sizes_of_memory s.codec s.lines
-store_totals s sizes kept =
-    let whole = kept.sound.whole in
-    let counted = kept.counted in
-    totals_are s.codec s.lines s.descriptors sizes (omega (arith, length-pages_of s.lines, whole)) (omega (arith, length-pages_of s.lines, whole, counted))
-    (λ i page d e f. subst (λ lines. IsAtPlan (plan_of s.codec lines) d) (pages_of-is s.lines i page e) (kept.sound.at_plan i d f))
-    (λ i page sized e f.
-    let own = same_Some sized (stored_sizes s.codec (page_of s.lines i)) (sym f ∙ kept.sized i (slice_get_within sizes i sized f)) in
-    own ∙ ap (stored_sizes s.codec) (pages_of-is s.lines i page e))
 
 -- a page that is placed leaves every other page that is zero
 pub placed_others : (s : Store) (page : ℕ) (bytes : List ℕ) (answer : Answer) (t : Store) (other : ℕ) → PlacesPage s page bytes answer t → other ≢ page → HasZero s other → HasZero t other
-placed_others s page bytes (Ok u) t other places ne zero =
-    ap (λ ds. slice_get ds other) places.comes.descriptors_are ∙ get-set_other s.descriptors page other places.comes.desc ne ∙ zero
-placed_others s page bytes (Err refusal) t other refused ne zero = rw refused.unchanged zero
+placed_others s page bytes (Ok u) t other places ne zero = places.outline.zeros_stay other ne zero
+placed_others s page bytes (Err refusal) t other refused ne zero = refused.outline.zeros_stay other ne zero

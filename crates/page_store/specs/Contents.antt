@@ -3,10 +3,7 @@ use Rattle.std.specs.Prelude.{◌≡◌, ◌/◌, ℕ, List, Some, Result, Ok, E
 use Rattle.hier_types.specs.Calls.{Answer}
 use Rattle.hier_types.specs.Causes.{raised}
 use Rattle.hier_types.specs.declared.faults.NoSpace.{NoSpace}
-use Rattle.page_plan.specs.PagePlan.{plan_of}
-use Rattle.page_plan.specs.Pages.{page_of}
-use Rattle.page_plan.specs.Sizes.{order_of}
-use Rattle.page_store.specs.Crowds.{Tight}
+use Rattle.page_store.specs.Crowds.{MayRefuse}
 use Rattle.page_store.specs.Store.{Store, Sizing}
 
 -- the lines, and how many were read and written
@@ -18,12 +15,9 @@ pub record Contents : Type 0 where
 abbrev pub contents_of : Store → Contents
 contents_of s = record { lines = s.lines; reads = s.counts.reads; writes = s.counts.writes }
 
--- A write of these bytes may be cut with this refusal: it names the page of the line and the order of that page's plan
--- after the write, and the lines are tight for them.
-pub record MayCut (sizing : Sizing) (lines : List (List ℕ)) (line : ℕ) (bytes : List ℕ) (refusal : NoSpace) : Type 0 where
-  pub page : refusal.page.0 ≡ line / 64
-  pub order : order_of (plan_of sizing.codec (page_of (slice_set lines line bytes) (line / 64))) ≡ Some refusal.order
-  pub tight : Tight sizing lines (line / 64) refusal.order
+-- a write of these bytes may be cut with this refusal
+abbrev pub MayCut : Sizing → List (List ℕ) → ℕ → List ℕ → NoSpace → Type 0
+MayCut sizing lines line bytes refusal = MayRefuse sizing lines (slice_set lines line bytes) (line / 64) refusal
 
 -- a write of these bytes can't be cut
 abbrev pub IsSure : Sizing → List (List ℕ) → ℕ → List ℕ → Type 0

@@ -6,6 +6,7 @@ use Rattle.hier_types.specs.declared.faults.NoSpace.{NoSpace}
 use Rattle.page_plan.specs.declared.least.PagePlan.{PagePlan}
 use Rattle.page_plan.specs.declared.least.PagePlan.TheVariants.{Zero, Packed, Raw}
 use Rattle.page_plan.specs.PagePlan.{plan_of}
+use Rattle.page_plan.specs.Sizes.{order_of}
 use Rattle.page_store.specs.declared.desc.Desc.{Desc}
 use Rattle.page_plan.specs.Pages.{page_of, plans_of}
 use Rattle.page_store.specs.PageBlocks.{IsAtPlan, IsFreeFor}
@@ -29,3 +30,10 @@ share k Raw = share_of_order k 3
 -- the blocks of the plans of all pages but one could meet every place of order k; it speaks of the contents alone
 unfoldable pub Tight : Sizing → List (List ℕ) → ℕ → ℕ → Type 0
 Tight sizing lines page k = sizing.frames * 2 ^ (3 - k) ≤ sum_by (share k) (slice_set (plans_of sizing.codec lines) page Zero)
+
+-- A page may be refused these lines: the refusal names it and the order of its new plan, and the lines before are tight for
+-- them.
+pub record MayRefuse (sizing : Sizing) (before after : List (List ℕ)) (page : ℕ) (refusal : NoSpace) : Type 0 where
+  pub page_is : refusal.page.0 ≡ page
+  pub order_is : order_of (plan_of sizing.codec (page_of after page)) ≡ Some refusal.order
+  pub tight : Tight sizing before page refusal.order

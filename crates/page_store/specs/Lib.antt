@@ -1,8 +1,6 @@
-pub mod Pages
 pub mod PageBlocks
 pub mod BlockChanges
 pub mod Store
 pub mod Crowds
 pub mod Calls
 pub mod Contents
-pub mod KeptSizes

@@ -57,7 +57,7 @@ impl Blocks {
         })
     }
 
-    /// Brings a page to a plan. The error is the plan's order, where no place of it is free for the page; nothing has
+    /// Brings a page to a plan, where it is not there already. The error is the plan's order, where no place of it is free for the page; nothing has
     /// changed then.
     pub(crate) fn settle(&mut self, page: usize, plan: PagePlan) -> Result<(), u8>
         requires { page < length self.old.descriptors }
@@ -67,6 +67,9 @@ impl Blocks {
         ensures err { IfErr result (λ order. LacksRoom self.old.descriptors self.old.used page plan order) }
         ensures unchanged { OnErr result (self.new ≡ self.old) }
     {
+        if self.descriptors[page].is_at(plan) {
+            return Ok(());
+        }
         let held = mem::replace(&mut self.descriptors[page], Desc::Zero);
         match settle(&mut self.frames, held, plan) {
             Ok(desc) => {
@@ -85,12 +88,5 @@ impl Blocks {
         ensures { IsCount (8 * length self.now.used) (λ unit. IsFreeBlock self.now.used (place_at order unit)) result }
     {
         self.frames.free(order)
-    }
-
-    /// How each page is kept.
-    pub(crate) fn descriptors(&self) -> &[Desc]
-        ensures { result.now ≡ self.now.descriptors }
-    {
-        self.descriptors.as_slice()
     }
 }

@@ -1,22 +1,8 @@
 // The lines of one page among those of all.
-ghost use Rattle.std.specs.Prelude.{◌≡◌, ◌<◌, ◌≤◌, ◌+◌, ◌*◌, ◌/◌, length, slice_set};
-ghost use Rattle.page_plan.specs.Pages.{page_of};
-ghost use Rattle.page_store.specs.Pages.{with_page, lines_of_page};
+ghost use Rattle.std.specs.Prelude.{◌≡◌, ◌≤◌, ◌+◌, ◌*◌, length};
+ghost use Rattle.page_plan.specs.Pages.{lines_of_page, with_page};
 
 use hier_types::Line;
-
-/// The lines of a page, one of which is changed.
-pub(crate) fn page_with(lines: &[Line], line: usize, from: &Line) -> [Line; 64]
-    requires inside { line < length lines.now }
-    requires whole { 64 * (line / 64) + 64 ≤ length lines.now }
-    ensures { result ≡ page_of (slice_set lines.now line from.now) (line / 64) }
-{
-    let first = 64 * (line / 64);
-    let mut page = [[0; 64]; 64];
-    page.copy_from_slice(&lines[first..first + 64]);
-    page[line % 64] = *from;
-    page
-}
 
 /// Changes the lines of a page for others.
 pub(crate) fn put_page(lines: &mut Vec<Line>, page: usize, others: &[Line; 64])

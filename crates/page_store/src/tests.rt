@@ -4,31 +4,12 @@ ghost use Rattle.hier_types.specs.declared.settings.Codec.TheVariants.{Bdi};
 
 use super::*;
 use hier_types::{Codec, Geometry, Layer, Line, LineNo, NoMemory, NoSpace, PageNo, Totals};
+use sample_lines::{plain, rising};
 use std::alloc::Global;
-
-// Words that rise by the same step each.
-fn rising(first: u32, step: u32) -> Line {
-    let mut line = [0; 64];
-    let mut word = first;
-    for place in 0..16usize {
-        let [a, b, c, d] = word.to_le_bytes();
-        line[4 * place] = a;
-        line[4 * place + 1] = b;
-        line[4 * place + 2] = c;
-        line[4 * place + 3] = d;
-        word = word.wrapping_add(step);
-    }
-    line
-}
 
 // A line that takes 23 bytes in a slot.
 fn shortened() -> Line {
     rising(0x0001_0000, 4)
-}
-
-// A line that no slot holds.
-fn plain() -> Line {
-    rising(0x0123_4567, 0x0123_4567)
 }
 
 fn store(alloc: Global, pages: u32, frames: u32) -> Result<Pages, NoMemory>
@@ -36,10 +17,10 @@ fn store(alloc: Global, pages: u32, frames: u32) -> Result<Pages, NoMemory>
     requires most_pages { pages ≤ 64 }
     requires some_frames { 1 ≤ frames }
     requires most_frames { frames ≤ 64 }
-    ensures { IfOk result (λ made. made ≡ fresh (record { codec = Bdi; frames = frames }) pages) }
+    ensures { IfOk result (λ made. made ≡ fresh (record { codec = Bdi; frames = frames; meta = 64 }) pages) }
 {
     let geometry = Geometry { base: 16, pages };
-    Pages::new(alloc, geometry, frames, Codec::Bdi)
+    Pages::new(alloc, geometry, frames, Codec::Bdi, 64)
 }
 
 // Writes a line to the first lines of a page, and tells whether the last write was not refused.
@@ -92,6 +73,7 @@ fn nine_pages_in_one_frame(rt: HostRuntime) {
     assert_eq!(rt; pages.read(LineNo(512), &mut line), Ok(()));
     assert_eq!(rt; line, [0; 64]);
     assert_eq!(rt; pages.write(LineNo(512), &[0; 64]), Ok(()));
+    pages.tidy();
     pages.view(LineNo(448), &mut line);
     assert_eq!(rt; line, shortened());
     assert_eq!(rt; (pages.counts().reads, pages.counts().writes), (1, 9));

@@ -1,6 +1,7 @@
 use Rattle.std.proofs.Common.{◌≡◌, ◌<◌, length, refl, set}
 use Rattle.page_store.specs.declared.desc.Desc.{Desc}
-use Rattle.page_store.proofs.BlockLemmas.{IsTaken, taken_at, taken_live, taken_comes, taken_sound, put_back, taken_lacks}
+use Rattle.std.proofs.lemmas.Option.{slice_get_read}
+use Rattle.page_store.proofs.BlockLemmas.{IsTaken, stays_at, taken_at, taken_live, taken_comes, taken_sound, put_back, taken_lacks}
 use Rattle.page_store.proofs.blocks.Blocks.settle.Goals as goal
 use Rattle.page_store.proofs.blocks.Blocks.settle.Goals.{After-replace-held}
 
@@ -46,3 +47,10 @@ returns-in-Err-clause-err c =
 pub returns-in-Err-clause-unchanged : goal.returns-in-Err-clause-unchanged
 returns-in-Err-clause-unchanged c =
     rw (← c.self.view_is, back (goal.at.returns-in-Err-clause-unchanged c).After-replace-held c.in-Err.no_place.held c.in-Err.ensures.back, c.in-Err.ensures.unchanged) refl
+
+pub returns-then-is_at-clause-ok : goal.returns-then-is_at-clause-ok
+returns-then-is_at-clause-ok c =
+    let ds = c.self.inside.descriptors.items in
+    let within : c.args.page < length ds = rw (← c.self.view_is) at c.requires in
+    let there = slice_get_read ds (length ds) c.args.page c.index.result.now refl within c.index.ensures in
+    rw (← c.self.view_is) (stays_at ds c.self.inside.frames c.args.page c.index.result.now c.args.plan c.self.invariant there (c.is_at.ensures.0 c.if-is_at.true))

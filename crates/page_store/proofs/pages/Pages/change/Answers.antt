@@ -1,32 +1,43 @@
-use Rattle.std.proofs.Common.{◌≡◌, ◌<◌, ◌/◌, ◌∙◌, List, ℕ, ap, length, set, subst, arith}
-use Rattle.page_plan.specs.Pages.{page_of}
-use Rattle.page_store.specs.Pages.{with_page}
+use Rattle.std.proofs.Common.{◌≡◌, ◌<◌, ◌/◌, ◌∙◌, length, set, refl, ap, arith}
+use Rattle.std.proofs.lemmas.Grind.{common_steps}
+use Rattle.hier_types.specs.declared.faults.NoSpace.{NoSpace}
+use Rattle.hier_types.specs.Causes.{raised}
+use Rattle.page_store.specs.Calls.{written_more}
 use Rattle.page_store.specs.Store.{Store}
-use Rattle.page_store.specs.Calls.{RewritesPage}
-use Rattle.page_store.proofs.PageLemmas.{with_page-set}
-use Rattle.page_store.proofs.StoreLemmas.{changed_lines, changed_sizes}
+use Rattle.page_store.proofs.StoreLemmas.{kept_after, line_planned, refuses, rewrites}
 use Rattle.page_store.proofs.pages.Pages.change.Goals as goal
 
-pub rewrite-requires-clause-whole : goal.rewrite-requires-clause-whole
-rewrite-requires-clause-whole c =
-    rw (c.page_with-page.ensures, c.deref.ensures.value)
-    (changed_lines c.self.inside.lines.items c.args.line.0 c.args.from.now c.self.invariant.sound.lines_are c.told-from)
-
-pub rewrite-requires-clause-sized : goal.rewrite-requires-clause-sized
-rewrite-requires-clause-sized c =
+pub returns-in-Err : goal.returns-in-Err
+returns-in-Err c =
     let in_self = c.self.inside in
+    let s : Store = record { codec = in_self.codec; lines = in_self.lines.items; descriptors = in_self.blocks.descriptors; used = in_self.blocks.used; meta = in_self.meta; counts = in_self.counts; stops = in_self.stops } in
     let within : c.args.line.0 < length in_self.lines.items = rw (← c.self.view_is) at c.requires in
-    let whole = c.self.invariant.sound.whole in
-    let counted = c.self.invariant.counted in
-    let inside : c.args.line.0 / 64 < length in_self.sizes.items = omega arith in
-    rw (← c.self.view_is, c.page_with-page.ensures, c.deref.ensures.value, c.stored_size.ensures)
-    (changed_sizes in_self.codec in_self.lines.items c.args.line.0 c.args.from.now in_self.sizes.items c.index.result.now c.self.invariant.sized inside c.index.ensures)
+    let page = c.args.line.0 / 64 in
+    let lines = set in_self.lines.items c.args.line.0 c.args.from.now in
+    let planned = line_planned s in_self.sizes.items c.args.line.0 c.args.from.now c.index.result.now c.set.new.self c.plan.result c.self.invariant within c.told-from c.index.ensures c.set.ensures c.plan.ensures.value in
+    let named = c.refuse.ensures.refusal in
+    rw (← c.self.view_is) (refuses s in_self.sizes.items c.self.invariant page lines c.set.new.self c.plan.result planned c.in-Err.order c.refuse.result c.refuse.new.self
+    c.in-Err.ensures.err (ap (λ (n : NoSpace). n.page.0) named) (ap (λ (n : NoSpace). n.order) named) (c.refuse.ensures.counted ∙ rw c.in-Err.ensures.unchanged refl))
+
+pub invariant_of-self-2 : goal.invariant_of-self-2
+invariant_of-self-2 c =
+    let in_self = c.self.inside in
+    let s : Store = record { codec = in_self.codec; lines = in_self.lines.items; descriptors = in_self.blocks.descriptors; used = in_self.blocks.used; meta = in_self.meta; counts = in_self.counts; stops = in_self.stops } in
+    let within : c.args.line.0 < length in_self.lines.items = rw (← c.self.view_is) at c.requires in
+    let page = c.args.line.0 / 64 in
+    let lines = set in_self.lines.items c.args.line.0 c.args.from.now in
+    let planned = line_planned s in_self.sizes.items c.args.line.0 c.args.from.now c.index.result.now c.set.new.self c.plan.result c.self.invariant within c.told-from c.index.ensures c.set.ensures c.plan.ensures.value in
+    let counts = record in_self.counts { writes = c.saturating_add-self-inside.result } in
+    kept_after s in_self.sizes.items c.self.invariant page lines c.set.new.self c.plan.result planned c.settle.new.self.descriptors c.settle.new.self.used counts c.in_default.ensures.ok c.in_default.ensures.sound
 
 pub returns : goal.returns
 returns c =
-    let now = c.args.self.now in
+    let in_self = c.self.inside in
+    let s : Store = record { codec = in_self.codec; lines = in_self.lines.items; descriptors = in_self.blocks.descriptors; used = in_self.blocks.used; meta = in_self.meta; counts = in_self.counts; stops = in_self.stops } in
+    let within : c.args.line.0 < length in_self.lines.items = rw (← c.self.view_is) at c.requires in
     let page = c.args.line.0 / 64 in
-    let read : c.page_with-page.result ≡ page_of (set now.lines c.args.line.0 c.args.from.now) page =
-    c.page_with-page.ensures ∙ ap (λ lines. page_of (set lines c.args.line.0 c.args.from.now) page) (c.deref.ensures.value ∙ ap (λ (s : Store). s.lines) c.self.view_is) in
-    subst (λ (lines : List (List ℕ)). RewritesPage now page lines c.rewrite.result c.rewrite.new.self) (ap (with_page now.lines page) read ∙ with_page-set now.lines c.args.line.0 c.args.from.now)
-    c.rewrite.ensures
+    let lines = set in_self.lines.items c.args.line.0 c.args.from.now in
+    let planned = line_planned s in_self.sizes.items c.args.line.0 c.args.from.now c.index.result.now c.set.new.self c.plan.result c.self.invariant within c.told-from c.index.ensures c.set.ensures c.plan.ensures.value in
+    let raised_is : c.saturating_add-self-inside.result ≡ raised in_self.counts.writes = grind (arith, common_steps) in
+    rw (← c.self.view_is) (rewrites s in_self.sizes.items c.self.invariant page lines c.set.new.self c.plan.result planned c.settle.new.self.descriptors c.settle.new.self.used
+    (written_more in_self.counts) _ c.in_default.ensures.ok c.in_default.ensures.frames c.in_default.ensures.sound refl (rw raised_is refl))
