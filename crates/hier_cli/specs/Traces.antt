@@ -12,10 +12,10 @@ use Rattle.hier_machine.specs.declared.ends.TraceEnd.{TraceEnd}
 use Rattle.hier_machine.specs.declared.ends.TraceEnd.TheVariants as trace
 use Rattle.hier_machine.specs.Memory.{store_of}
 use Rattle.hier_machine.specs.Reports.{Reports}
-use Rattle.hier_machine.specs.Spaces.{IsSpaceEnd}
+use Rattle.hier_machine.specs.Spaces.{HasNoneIfSpace, IsSpaceEnd}
 use Rattle.hier_machine.specs.Start.{StartsEmpty, asked_sizing}
 use Rattle.hier_machine.specs.State.{MachineState}
-use Rattle.hier_machine.specs.Traces.{FollowsAccesses, RunsTrace, TraceState}
+use Rattle.hier_machine.specs.Traces.{FollowsAccesses, IsCrowdedAtEnd, RunsTrace, TraceState}
 use Rattle.run_report.specs.Texts.{address, line_feed}
 use Rattle.run_report.specs.declared.end.End.{End}
 use Rattle.run_report.specs.declared.end.End.TheVariants.{Done, BadTrace, Budget, OutFault, NoMemory}
@@ -45,7 +45,8 @@ IsTraceEnd span store trace.OutFault end = end ≡ OutFault
 
 -- The trace has no fault, and its accesses were made up to this end over a machine of zeros, by the loop of every run: over
 -- both cache levels and the pages, and so over the lists of both levels above plain contents. What was printed and what is
--- left are those of the accesses alone.
+-- left are those of the accesses alone. The store that is left is sound; after a refusal it is crowded, and no block is free
+-- from the refused order on.
 pub record RunsTraceFile (settings : Settings) (file : List ℕ) (streams : Streams) (own : End) (last : MachineState) : Type 0 where
   pub accepted : first_fault settings.geometry (numbered_rows 1 file) ≡ None
   pub first : MachineState
@@ -55,6 +56,9 @@ pub record RunsTraceFile (settings : Settings) (file : List ℕ) (streams : Stre
   pub run : RunsTrace printed settings.budget settings.beats (trace_state first (accesses_in settings.geometry file)) end (trace_state last left) streams
   pub follows : FollowsAccesses printed settings.budget settings.geometry (accesses_in settings.geometry file) end (trace_state last left) streams
   pub told : IsTraceEnd settings.geometry (store_of last.memory) end own
+  pub crowded : IsCrowdedAtEnd (store_of last.memory) end
+  pub none_free : HasNoneIfSpace own
+  pub sound : pages.IsSound (store_of last.memory)
   pub sizing : pages.sizing_of (store_of last.memory) ≡ asked_sizing settings
 
 -- And the machine that it left gave the report.

@@ -4,7 +4,8 @@ use Rattle.hier_types.specs.declared.settings.Settings.{Settings}
 use Rattle.hier_types.specs.Span.{Span}
 use Rattle.hier_types.specs.Streams.{Streams}
 use Rattle.elf_image.specs.Image.{Loaded}
-use Rattle.page_store.specs.Store.{sizing_of}
+use Rattle.page_store.specs.Store.{IsSound, sizing_of}
+use Rattle.rv_guest.specs.declared.ends.MachineEnd.{MachineEnd}
 use Rattle.rv_guest.specs.Beside.{guest_at}
 use Rattle.rv_guest.specs.FollowsFlat.{FollowsFlat}
 use Rattle.rv_guest.specs.State.{GuestState}
@@ -14,7 +15,10 @@ use Rattle.run_report.specs.declared.report.Report.{Report}
 use Rattle.hier_machine.specs.FileRuns.{Opens, ReportsFile, RunsFile, RunsToEnd, RunsToReport}
 use Rattle.hier_machine.specs.Memory.{Memory, store_of}
 use Rattle.hier_machine.specs.Start.{Starts, asked_sizing}
-use Rattle.hier_machine.specs.State.{MachineState}
+use Rattle.hier_machine.specs.Runs.{RunsMachine}
+use Rattle.hier_machine.specs.Spaces.{IsEndOf}
+use Rattle.hier_machine.specs.State.{MachineState, guest_of_machine}
+use Rattle.hier_machine.proofs.RunLemmas.{ends_crowded, none_free_told}
 use Rattle.hier_machine.proofs.PlacedLemmas.{placed_facts}
 
 -- a machine begins with the store that its settings ask for
@@ -26,6 +30,22 @@ begins_sized settings file s starts =
 -- no instruction has retired at its beginning
 pub begins_within : (settings : Settings) (file : List ℕ) (s : MachineState) → Starts settings file s → s.guest.retired ≤ s.budget
 begins_within settings file s starts = omega (arith, ap (λ (g : GuestState). g.retired) starts.guest)
+
+-- a run of a machine, told by its end over the store that it left
+pub runs_to_end : (first : MachineState) (end : MachineEnd) (last : MachineState) (streams : Streams) (own : End) → RunsMachine first end last streams
+    → FollowsFlat (guest_of_machine first) first.budget first.guest end last.guest streams → IsEndOf last.memory.span (store_of last.memory) end own → IsSound (store_of last.memory)
+    → RunsToEnd first streams own last
+runs_to_end first end last streams own run flat told sound =
+    let crowded = ends_crowded first last end streams run in
+    record {
+      end = end;
+      run = run;
+      flat = flat;
+      told = subst (λ (span : Span). IsEndOf span (store_of last.memory) end own) run.stays.span told;
+      crowded = crowded;
+      none_free = none_free_told last.memory.span (store_of last.memory) end own told crowded;
+      sound = sound;
+    }
 
 -- the run of a machine that begins with the file's program is one of the program
 pub runs_file : (settings : Settings) (file : List ℕ) (first : MachineState) (streams : Streams) (own : End) (last : MachineState) → Opens settings file first → RunsToEnd first streams own last → RunsFile settings file streams own last

@@ -1,16 +1,20 @@
 -- The image, placed page by page.
-use Rattle.std.proofs.Common.{◌≡◌, ◌≢◌, ℕ, zero, suc, ◌+◌, ◌-◌, ◌*◌, ◌<◌, ◌≤◌, List, [], ◌++◌, length, replicate, take, drop, get_or, Some, slice_get, refl, sym, ◌∙◌, ap, arith, append_assoc, length-append, inl, inr}
+use Rattle.std.proofs.Common.{◌≡◌, ℕ, zero, suc, ◌+◌, ◌-◌, ◌*◌, ◌<◌, ◌≤◌, List, [], ◌++◌, length, replicate, take, drop, get_or, Some, slice_get, refl, sym, ◌∙◌, ap, arith, append_assoc, length-append, inl, inr}
 use Rattle.std.proofs.Math.Seq.{take-append_seam, drop-append_seam, drop-append-add}
 use Rattle.std.proofs.lemmas.List.{append-nil, length-replicate, replicate-append-replicate, take-replicate, drop-replicate}
-use Rattle.hier_types.specs.declared.settings.Codec.{Codec}
 use Rattle.hier_types.specs.Lines.{zero_line}
 use Rattle.hier_types.specs.Tabulate.{tabulate}
 use Rattle.hier_types.proofs.TableLemmas.{length-tabulate, part-tabulate, tabulate-add, tabulate-by_index, tabulate-none, tabulate-same}
 use Rattle.elf_image.specs.Image.{Loaded, byte_at, page_of}
 use Rattle.page_store.specs.declared.desc.Desc.TheVariants.{Zero}
-use Rattle.page_store.specs.Pages.{lines_of_page, with_page}
+use Rattle.hier_types.specs.declared.faults.NoSpace.{NoSpace}
+use Rattle.page_plan.specs.PagePlan.{plan_of}
+use Rattle.page_plan.specs.Pages as pages
+use Rattle.page_plan.specs.Pages.{lines_of_page, with_page}
+use Rattle.page_plan.specs.Sizes.{order_of}
+use Rattle.page_plan.proofs.PageLemmas.{page_of-with}
+use Rattle.page_store.specs.Crowds.{MayRefuse}
 use Rattle.page_store.specs.Store.{HasZero, Sizing, Store, sizing_of}
-use Rattle.page_store.proofs.ListLemmas.{get-set_other}
 use Rattle.hier_machine.specs.Lines.{line_in, lines_before}
 use Rattle.hier_machine.specs.Placed.{AwaitsImage, PlacedUpTo, zero_page}
 
@@ -77,6 +81,13 @@ zero_page_stays image page inside zeros =
     ∙ ap (λ l. with_page (lines_before image page) page l) (sym (ap lines_of_page zeros ∙ lines_of_zeros))
     ∙ placed_page image page inside
 
+-- they are all lines of the span
+lines_counted : (image : Loaded) (page : ℕ) → page ≤ image.span.pages → length (lines_before image page) ≡ 64 * image.span.pages
+lines_counted image page within =
+    let front = tabulate (line_in image) (64 * page) in
+    let back = replicate (64 * (image.span.pages - page)) zero_line in
+    omega (arith, length-append front back, length-tabulate (line_in image) (64 * page), length-replicate (64 * (image.span.pages - page)) zero_line)
+
 -- The store after the pages before one were placed.
 pub record PlacedFacts (image : Loaded) (sizing : Sizing) (page : ℕ) (s : Store) : Type 0 where
   pub lines : s.lines ≡ lines_before image page
@@ -92,10 +103,6 @@ some_zero (suc n) (suc i) lt = some_zero n i (omega arith)
 suc_is : (n : ℕ) → suc n ≡ n + 1
 suc_is n = omega arith
 
--- what sizes a store
-abbrev sizing_by : Codec → ℕ → Sizing
-sizing_by codec frames = record { codec = codec; frames = frames }
-
 pub placed_facts : (image : Loaded) (sizing : Sizing) (page : ℕ) (s : Store) → page ≤ image.span.pages → PlacedUpTo image sizing page s → PlacedFacts image sizing page s
 placed_facts image sizing zero s within h =
     let all : 64 * (image.span.pages - 0) ≡ 64 * image.span.pages = omega arith in
@@ -103,7 +110,7 @@ placed_facts image sizing zero s within h =
       lines = sym (ap (λ l. l ++ replicate (64 * (image.span.pages - 0)) zero_line) (tabulate-none (line_in image)) ∙ ap (λ n. replicate n zero_line) all);
       count = length-replicate image.span.pages Zero;
       zeros = λ other le lt. some_zero image.span.pages other lt;
-      sizing_is = ap (λ n. sizing_by sizing.codec n) (length-replicate sizing.frames 0);
+      sizing_is = ap (λ (n : ℕ). record sizing { frames = n }) (length-replicate sizing.frames 0);
     })
 placed_facts image sizing (suc page) s within (mid, before, inl (zeros, same)) =
     let so = placed_facts image sizing page mid (omega arith) before in
@@ -116,11 +123,10 @@ placed_facts image sizing (suc page) s within (mid, before, inl (zeros, same)) =
 placed_facts image sizing (suc page) s within (mid, before, inr (some, places)) =
     let so = placed_facts image sizing page mid (omega arith) before in
     rw (suc_is page) (record {
-      lines = places.lines_are ∙ ap (λ l. with_page l page (lines_of_page (page_of image.span image.file page))) so.lines ∙ placed_page image page (omega arith);
-      count = places.pages_stay ∙ so.count;
-      zeros = λ other le lt. let apart : other ≢ page = λ e. omega (arith, e) in
-          ap (λ d. slice_get d other) places.comes.descriptors_are ∙ get-set_other mid.descriptors page other places.comes.desc apart ∙ so.zeros other (omega arith) lt;
-      sizing_is = places.sizing_stays ∙ so.sizing_is;
+      lines = places.outline.lines_are ∙ ap (λ l. with_page l page (lines_of_page (page_of image.span image.file page))) so.lines ∙ placed_page image page (omega arith);
+      count = places.outline.pages_stay ∙ so.count;
+      zeros = λ other le lt. places.outline.zeros_stay other (λ e. omega (arith, e)) (so.zeros other (omega arith) lt);
+      sizing_is = places.outline.sizing_is ∙ so.sizing_is;
     })
 
 -- all pages were placed
@@ -130,11 +136,7 @@ placed_all image sizing s h =
     (placed_facts image sizing image.span.pages s (omega arith) h).lines ∙ ap (λ n. tabulate (line_in image) (64 * image.span.pages) ++ replicate n zero_line) none ∙ append-nil (tabulate (line_in image) (64 * image.span.pages))
 
 placed_size : (image : Loaded) (sizing : Sizing) (page : ℕ) (s : Store) → page ≤ image.span.pages → PlacedUpTo image sizing page s → length s.lines ≡ 64 * image.span.pages
-placed_size image sizing page s within h =
-    let front = tabulate (line_in image) (64 * page) in
-    let back = replicate (64 * (image.span.pages - page)) zero_line in
-    let lines : length s.lines ≡ length (front ++ back) = ap length (placed_facts image sizing page s within h).lines in
-    omega (arith, lines, length-append front back, length-tabulate (line_in image) (64 * page), length-replicate (64 * (image.span.pages - page)) zero_line)
+placed_size image sizing page s within h = ap length (placed_facts image sizing page s within h).lines ∙ lines_counted image page within
 
 -- the lines stay as many
 pub placed_lines : (image : Loaded) (pages page : ℕ) (before s : Store) → AwaitsImage image pages before → page ≤ image.span.pages
@@ -142,3 +144,14 @@ pub placed_lines : (image : Loaded) (pages page : ℕ) (before s : Store) → Aw
 placed_lines image pages page before s awaits within h =
     let none : PlacedUpTo image (sizing_of before) 0 before = rw awaits.same awaits.empty in
     placed_size image (sizing_of before) page s within h ∙ sym (placed_size image (sizing_of before) 0 before (omega arith) none)
+
+-- a page that found no room has the order of its plan in the image
+pub refused_order : (image : Loaded) (sizing : Sizing) (page : ℕ) (s : Store) (refusal : NoSpace) → page < image.span.pages → PlacedFacts image sizing page s
+    → MayRefuse (sizing_of s) s.lines (with_page s.lines page (lines_of_page (page_of image.span image.file page))) page refusal
+    → order_of (plan_of sizing.codec (lines_of_page (page_of image.span image.file page))) ≡ Some refusal.order
+refused_order image sizing page s refusal inside facts cause =
+    let others = lines_of_page (page_of image.span image.file page) in
+    let whole : length others ≡ 64 = length-tabulate (λ line. take 64 (drop (64 * line) (page_of image.span image.file page))) 64 in
+    let counted : length s.lines ≡ 64 * image.span.pages = ap length facts.lines ∙ lines_counted image page (omega arith) in
+    let here : pages.page_of (with_page s.lines page others) page ≡ others = page_of-with s.lines page others (omega (arith, counted)) whole in
+    ap (λ (k : Sizing). order_of (plan_of k.codec others)) (sym facts.sizing_is) ∙ ap (λ l. order_of (plan_of (sizing_of s).codec l)) (sym here) ∙ cause.order_is

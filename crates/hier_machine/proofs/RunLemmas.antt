@@ -1,22 +1,26 @@
 -- A run of the machine, beat by beat.
-use Rattle.std.proofs.Common.{◌≡◌, ◌≤◌, ◌∙◌, ℕ, true, false, cond, List, Option, Some, None, refl, ap, subst, sym, inl, inr}
+use Rattle.std.proofs.Common.{◌≡◌, ◌≤◌, ◌∙◌, ℕ, true, cond, List, Option, Some, None, refl, ap, subst, sym, inl, inr}
 use Rattle.hier_types.specs.declared.beats.Beat.{Beat}
 use Rattle.hier_types.specs.declared.beats.Beat.TheVariants.{Hart, Mover, Cleaner}
 use Rattle.hier_types.specs.Beats.{is_cleaner, is_mover}
+use Rattle.std.proofs.lemmas.Option.{none-some, same_Some}
 use Rattle.hier_types.specs.Causes.{raised}
+use Rattle.hier_types.specs.Span.{Span}
 use Rattle.hier_types.specs.Streams.{FaultsStay, Streams, at_first}
 use Rattle.hier_types.proofs.StreamLemmas.{faults_first}
 use Rattle.beat_runs.specs.Points.{Runs, point}
 use Rattle.beat_runs.proofs.PointLemmas.{run_as, run_faults, run_holds, run_turns}
 use Rattle.beat_runs.proofs.StandLemmas.{free_lt, used_le}
-use Rattle.page_store.specs.Store.{Sizing, sizing_of}
+use Rattle.page_store.specs.Store.{Sizing, Store, sizing_of}
 use Rattle.rv_core.specs.Code.{Code}
 use Rattle.rv_guest.specs.declared.ends.MachineEnd.{MachineEnd}
-use Rattle.rv_guest.specs.declared.ends.MachineEnd.TheVariants.{Budget}
+use Rattle.rv_guest.specs.declared.ends.MachineEnd.TheVariants.{Exit, Trap, Budget, InFault, OutFault, Space}
 use Rattle.rv_guest.specs.Beside.{guest_beside}
 use Rattle.rv_guest.specs.FollowsFlat.{DoesGuest, FollowsFlat}
 use Rattle.rv_guest.specs.Steps.{DoesBeat}
 use Rattle.rv_guest.proofs.FollowsLemmas.{Carries, follows}
+use Rattle.run_report.specs.declared.end.End.{End}
+use Rattle.hier_machine.specs.Spaces.{HasNoneIfSpace, IsCrowdedIfSpace, IsEndOf}
 use Rattle.hier_machine.specs.Beats.{Beats, KeepsSettings, TurnsStay}
 use Rattle.hier_machine.specs.Lists.{ShowsBytes, lists_of}
 use Rattle.hier_machine.specs.Memory.{store_of, with_second}
@@ -152,3 +156,31 @@ machine_follows old end new streams within h =
     let code = code_of_machine old in
     let sizing = sizing_of (store_of old.memory) in
     follows (guest_beside code) (λ (s : MachineState). s.guest) (λ (s : MachineState). code_of_machine s ≡ code) stands_at (MakesBeat sizing) (carries sizing code) old.beats old.budget old end new streams refl within h.beats
+
+-- where a run ends with a refusal, the store is crowded for it
+beat_crowded : (beat : Beat) (old new : MachineState) (end : MachineEnd) (streams : Streams) → Beats beat old (Some end) new streams → IsCrowdedIfSpace (store_of new.memory) end
+beat_crowded Hart old new (Space refusal) streams h = h.cause.1
+beat_crowded Hart old new (Exit status) streams h = tt
+beat_crowded Hart old new (Trap trap) streams h = tt
+beat_crowded Hart old new Budget streams h = tt
+beat_crowded Hart old new InFault streams h = tt
+beat_crowded Hart old new OutFault streams h = tt
+beat_crowded Mover old new end streams h = absurd (none-some end (sym h.none))
+beat_crowded Cleaner old new end streams h = absurd (none-some end (sym h.none))
+
+pub ends_crowded : (old new : MachineState) (end : MachineEnd) (streams : Streams) → RunsMachine old end new streams → IsCrowdedIfSpace (store_of new.memory) end
+ends_crowded old new end streams h = elim h.beats.ends [
+  | inl at ↦ beat_crowded at.beat h.beats.before.state new end at.streams at.does.machine
+  | inr before ↦
+      let stop = stop_is old.budget h.beats.before.state new end before.stands_so in
+      subst (IsCrowdedIfSpace (store_of new.memory)) (sym stop.0) tt
+]
+
+-- and its end tells of no free block from the refused order on
+pub none_free_told : (span : Span) (store : Store) (end : MachineEnd) (own : End) → IsEndOf span store end own → IsCrowdedIfSpace store end → HasNoneIfSpace own
+none_free_told span store (Space refusal) own told crowded = subst HasNoneIfSpace (sym told.told) (told.none_free crowded)
+none_free_told span store (Exit status) own told crowded = subst HasNoneIfSpace (same_Some _ own told) tt
+none_free_told span store (Trap trap) own told crowded = subst HasNoneIfSpace (same_Some _ own told) tt
+none_free_told span store Budget own told crowded = subst HasNoneIfSpace (same_Some _ own told) tt
+none_free_told span store InFault own told crowded = subst HasNoneIfSpace (same_Some _ own told) tt
+none_free_told span store OutFault own told crowded = subst HasNoneIfSpace (same_Some _ own told) tt

@@ -1,21 +1,22 @@
 -- What settling leaves, and what a report says of it.
-use Rattle.std.proofs.Common.{◌≡◌, ◌∙◌, Ok, Err, MatchResult, refl, ap, subst, sym}
+use Rattle.std.proofs.Common.{◌≡◌, ◌∙◌, ℕ, List, Ok, Err, MatchResult, refl, ap, subst, sym}
 use Rattle.hier_types.specs.Calls.{Answer}
 use Rattle.hier_types.specs.declared.counts.Totals.{Totals}
 use Rattle.l1_cache.specs.FirstCalls.{FirstFlushes}
 use Rattle.l2_cache.specs.SecondCalls.{SecondFlushes, SecondRead, SecondWrite}
 use Rattle.page_plan.specs.Sizes.{sizes_of_memory}
-use Rattle.page_store.specs.Calls.{StoreRead, StoreWrite}
+use Rattle.page_store.specs.Calls.{StoreRead, StoreWrite, Tidies}
 use Rattle.page_store.specs.Contents.{Contents, ContentsRead, ContentsWrite, contents_of}
 use Rattle.page_store.specs.Store.{Sizing, Store, sizing_of}
-use Rattle.page_store.proofs.ContentLemmas.{store_reads, store_writes}
+use Rattle.page_store.proofs.ContentLemmas.{store_reads, store_writes, tidied_contents}
+use Rattle.recency.specs.Levels.{overlay}
 use Rattle.recency.specs.Steps.{Flushes}
 use Rattle.run_report.specs.declared.report.Settled.TheVariants.{Done}
 use Rattle.hier_machine.specs.Levels.{levels_above, second_above}
 use Rattle.hier_machine.specs.Lists.{lists_of}
 use Rattle.hier_machine.specs.Memory.{Below, Memory, content_of, guest_bytes, guest_lines, store_of}
 use Rattle.hier_machine.specs.Reports.{SettledAs}
-use Rattle.hier_machine.specs.Settles.{ListsSettle, SettlesLevels, SettlesMachine, SettlesSecond}
+use Rattle.hier_machine.specs.Settles.{ListsSettle, SettlesLevels, SettlesMachine, SettlesSecond, TidiesStore}
 use Rattle.hier_machine.specs.State.{MachineState}
 use Rattle.hier_machine.proofs.KeepingLemmas.{Makes-keeping}
 use Rattle.hier_machine.proofs.ListsLemmas.{Sized, SizedBelow, second_reads, second_writes}
@@ -44,18 +45,27 @@ module _ (sizing : Sizing) where
       (below.0, record { flushes = below.1; rest = ap (levels_above contents_of) h.rest })
   goes_on mid new (Err refusal) answer sized h = (subst (Sized sizing) (sym h.1) sized, (h.0, ap (levels_above contents_of) h.1))
 
+  -- tidying leaves the contents and the store's size
+  tidied : (flushed new : Memory) (answer : Answer) → Sized sizing flushed → MatchResult answer (λ _. TidiesStore Tidies flushed new) (λ _. new ≡ flushed)
+      → Sized sizing new × MatchResult answer (λ _. TidiesStore (λ before after. after ≡ before) (levels_above contents_of flushed) (levels_above contents_of new)) (λ _. levels_above contents_of new ≡ levels_above contents_of flushed)
+  tidied flushed new (Ok u) sized h = (h.tidies.sizing_is ∙ sized, record { tidies = tidied_contents (store_of flushed) (store_of new) h.tidies; rest = ap (levels_above contents_of) h.rest })
+  tidied flushed new (Err refusal) sized h = (subst (Sized sizing) (sym h) sized, ap (levels_above contents_of) h)
+
   -- what settles the memory settles the lists above the contents
-  levels_settled : (old new : Memory) (answer : Answer) → Sized sizing old → SettlesLevels StoreRead StoreWrite content_of old answer new
-      → Sized sizing new × SettlesLevels ContentsRead (ContentsWrite sizing) (λ (c : Contents). c.lines) (levels_above contents_of old) answer (levels_above contents_of new)
+  levels_settled : (old new : Memory) (answer : Answer) → Sized sizing old → SettlesLevels StoreRead StoreWrite Tidies content_of old answer new
+      → Sized sizing new × SettlesLevels ContentsRead (ContentsWrite sizing) (λ before after. after ≡ before) (λ (c : Contents). c.lines) (levels_above contents_of old) answer (levels_above contents_of new)
   levels_settled old new answer sized h =
-      let flushed = first_flushed old h.mid h.first sized h.flushes in
-      let rest = goes_on h.mid new h.first answer flushed.0 h.goes_on in (
+      let first = first_flushed old h.mid h.first sized h.flushes in
+      let second = goes_on h.mid h.flushed h.first answer first.0 h.goes_on in
+      let rest = tidied h.flushed new answer second.0 h.tidied in (
         rest.0,
         record {
           mid = levels_above contents_of h.mid;
           first = h.first;
-          flushes = flushed.1;
-          goes_on = rest.1;
+          flushes = first.1;
+          flushed = levels_above contents_of h.flushed;
+          goes_on = second.1;
+          tidied = rest.1;
           lines = h.lines;
           settled = h.settled;
         },
@@ -66,6 +76,10 @@ pub lists_settle : (old new : MachineState) (answer : Answer) → SettlesMachine
     → ListsSettle (sizing_of (store_of old.memory)) (lists_of old) answer (lists_of new)
 lists_settle old new answer h shows =
     record { levels = (levels_settled (sizing_of (store_of old.memory)) old.memory new.memory answer refl h.levels).1; rest = ap lists_of h.rest; shows = shows }
+
+-- tidying changes no line of the guest
+pub tidied_lines : (old new : Memory) → TidiesStore Tidies old new → guest_lines new ≡ guest_lines old
+tidied_lines old new h = ap guest_lines h.rest ∙ ap (λ (lines : List (List ℕ)). overlay (overlay lines old.below.sets) old.sets) h.tidies.lines_are
 
 -- the totals of the store are those of the guest's memory once it has settled
 pub settled_done : (old new : MachineState) (answer : Answer) (totals : Totals) → SettlesMachine old answer new → answer ≡ Ok tt

@@ -1,7 +1,9 @@
 -- A run of a trace, beat by beat.
-use Rattle.std.proofs.Common.{◌≡◌, ◌⊎◌, ◌<◌, ◌≤◌, ◌+◌, ◌∙◌, ℕ, zero, suc, Bool, true, false, cond, nat_lt, List, [], ◌∷◌, ◌++◌, take, drop, slice_get, Option, Some, None, Result, Ok, Err, refl, sym, ap, subst, arith, append_assoc, inl, inr}
+use Rattle.std.proofs.Common.{◌≡◌, ◌⊎◌, ◌<◌, ◌≤◌, ◌+◌, ◌∙◌, ℕ, zero, suc, Bool, true, false, cond, nat_lt, List, [], ◌∷◌, ◌++◌, take, drop, slice_get, Option, Some, None, Result, Ok, Err, IfErr, ltb, refl, sym, ap, subst, arith, append_assoc, inl, inr}
 use Rattle.std.proofs.KnownBytes.{Appends-trans}
+use Rattle.std.proofs.lemmas.Bool.{cases_Bool, cond-false, cond-true}
 use Rattle.std.proofs.lemmas.List.{append-nil}
+use Rattle.std.proofs.lemmas.Option.{none-some, same_Some}
 use Rattle.std.specs.Io.KnownBytes.{Appends}
 use Rattle.hier_types.specs.declared.access.Access.{Access}
 use Rattle.hier_types.specs.declared.beats.Beat.{Beat}
@@ -11,12 +13,14 @@ use Rattle.hier_types.specs.declared.settings.Settings.{Settings}
 use Rattle.hier_types.specs.Beats.{is_cleaner, is_mover}
 use Rattle.hier_types.specs.Causes.{raised}
 use Rattle.hier_types.specs.Span.{Span}
-use Rattle.hier_types.specs.Streams.{IsUntouched, Streams, at_first, over}
+use Rattle.hier_types.specs.Streams.{IsUntouched, Stream, Streams, at_first, over}
 use Rattle.hier_types.proofs.CauseLemmas.{rose_since}
 use Rattle.hier_types.proofs.StreamLemmas.{appends_nothing}
 use Rattle.beat_runs.specs.Points.{PassesBeat, Point, Runs, point, retired_by}
 use Rattle.beat_runs.proofs.PointLemmas.{points_hold, run_as, run_holds, run_turns}
 use Rattle.beat_runs.proofs.StandLemmas.{is_below}
+use Rattle.page_store.specs.Crowds.{Crowded}
+use Rattle.page_store.specs.Store as pages
 use Rattle.page_store.specs.Store.{Sizing, sizing_of}
 use Rattle.rv_core.specs.Accesses.{accessed, value_of}
 use Rattle.rv_guest.specs.State.{GuestState}
@@ -28,7 +32,7 @@ use Rattle.hier_machine.specs.Lists.{ShowsBytes, lists_of}
 use Rattle.hier_machine.specs.Memory.{guest_bytes, store_of}
 use Rattle.hier_machine.specs.Start.{StartsEmpty}
 use Rattle.hier_machine.specs.State.{MachineState}
-use Rattle.hier_machine.specs.Traces.{FollowsAccesses, IsPrintedSoFar, MakesAccess, RunsTrace, TellsAccess, TraceBeats, TraceState, bytes_after, printed_by, trace_end, trace_stands, with_state, zeros}
+use Rattle.hier_machine.specs.Traces.{FollowsAccesses, IsCrowdedAtEnd, IsPrintedSoFar, MakesAccess, RunsTrace, TellsAccess, TraceBeats, TraceState, bytes_after, printed_by, trace_end, trace_stands, with_state, zeros}
 use Rattle.hier_machine.proofs.MemoryLemmas.{start_bytes}
 use Rattle.hier_machine.proofs.RunLemmas.{cleaner_is, cleaner_on, keeps_settings, mover_is, mover_on, settings_join, settings_same}
 
@@ -363,3 +367,41 @@ module _ (printed : Access → ℕ → List ℕ) (budget : ℕ) (word : List Bea
               subst (λ (s : Streams). FollowsAccesses printed budget span all end new s) (sym by.quiet)
               (subst (λ (t : TraceState). FollowsAccesses printed budget span all end t r.before.streams) (sym stop.0) (stopped r.before end before stop.1)))
         ]
+
+-- where a trace ends with a refusal, the store is crowded for it
+access_crowded : (printed : Access → ℕ → List ℕ) (access : Access) (rest left : List Access) (answer : Result ℕ NoSpace) (end : TraceEnd) (out : Stream) (store : pages.Store)
+    → IfErr answer (Crowded store) → TellsAccess printed access rest answer (Some end) left out → IsCrowdedAtEnd store end
+access_crowded printed access rest left answer Done out store cause tells = tt
+access_crowded printed access rest left answer Budget out store cause tells = tt
+access_crowded printed access rest left answer OutFault out store cause tells = tt
+access_crowded printed access rest left (Ok value) (Space given) out store cause tells = absurd tells
+access_crowded printed access rest left (Err refusal) (Space given) out store cause tells = subst (Crowded store) (sym tells.1) cause
+
+trace_beat_crowded : (printed : Access → ℕ → List ℕ) (sizing : Sizing) (beat : Beat) (a b : TraceState) (end : TraceEnd) (s : Streams) → TraceBeats printed sizing beat a (Some end) b s
+    → IsCrowdedAtEnd (store_of b.machine.memory) end
+trace_beat_crowded printed sizing Hart a b end s h = access_crowded printed h.access h.rest b.left h.answer end s.output (store_of b.machine.memory) h.tries.machine.cause.justified h.tells
+trace_beat_crowded printed sizing Mover a b end s h = absurd (none-some end (sym h.none))
+trace_beat_crowded printed sizing Cleaner a b end s h = absurd (none-some end (sym h.none))
+
+trace_end_crowded : (budget made : ℕ) (left : List Access) (end : TraceEnd) (store : pages.Store) → trace_end budget made left ≡ Some end → IsCrowdedAtEnd store end
+trace_end_crowded budget made left Done store is = tt
+trace_end_crowded budget made left Budget store is = tt
+trace_end_crowded budget made left OutFault store is = tt
+trace_end_crowded budget made [] (Space refusal) store is = absurd (let no = is in cc)
+trace_end_crowded budget made (access ∷ rest) (Space refusal) store is = elim (cases_Bool (ltb made budget)) [
+  | inl e ↦ absurd (none-some (Space refusal) (sym (cond-true (ltb made budget) None (Some Budget) e) ∙ is))
+  | inr e ↦ absurd (let no = sym (cond-false (ltb made budget) None (Some Budget) e) ∙ is in cc)
+]
+
+with_state_end : (s : TraceState) (o : Option TraceEnd) (end : TraceEnd) (t : TraceState) → with_state s o ≡ Some (end, t) → o ≡ Some end
+with_state_end s None end t is = absurd (none-some (end, t) is)
+with_state_end s (Some own) end t is = ap Some (ap (λ (p : TraceEnd × TraceState). p.0) (same_Some (own, s) (end, t) is))
+
+pub trace_crowded : (printed : Access → ℕ → List ℕ) (budget : ℕ) (beats : List Beat) (old : TraceState) (end : TraceEnd) (new : TraceState) (streams : Streams) → RunsTrace printed budget beats old end new streams
+    → IsCrowdedAtEnd (store_of new.machine.memory) end
+trace_crowded printed budget beats old end new streams h = elim h.run.ends [
+  | inl at ↦ trace_beat_crowded printed (sizing_of (store_of old.machine.memory)) at.beat h.run.before.state new end at.streams at.does
+  | inr before ↦
+      let s = h.run.before.state in
+      trace_end_crowded budget s.machine.guest.retired s.left end (store_of new.machine.memory) (with_state_end s (trace_end budget s.machine.guest.retired s.left) end new before.stands_so)
+]

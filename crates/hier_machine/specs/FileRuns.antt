@@ -3,7 +3,7 @@ use Rattle.std.specs.Prelude.{◌≡◌, List, ℕ, Some, None}
 use Rattle.elf_image.specs.Accepted.{fault_of}
 use Rattle.hier_types.specs.declared.settings.Settings.{Settings}
 use Rattle.hier_types.specs.Streams.{Stream, Streams, stream}
-use Rattle.page_store.specs.Store.{sizing_of}
+use Rattle.page_store.specs.Store.{IsSound, sizing_of}
 use Rattle.rv_guest.specs.declared.ends.MachineEnd.{MachineEnd}
 use Rattle.rv_guest.specs.FollowsFlat.{FollowsFlat}
 use Rattle.rv_guest.specs.Headline.{EndsAsFlat}
@@ -15,7 +15,7 @@ use Rattle.hier_machine.specs.Memory.{store_of}
 use Rattle.hier_machine.specs.Placed.{NoRoomFor}
 use Rattle.hier_machine.specs.Reports.{Reports}
 use Rattle.hier_machine.specs.Runs.{RunsMachine}
-use Rattle.hier_machine.specs.Spaces.{IsEndOf}
+use Rattle.hier_machine.specs.Spaces.{HasNoneIfSpace, IsCrowdedIfSpace, IsEndOf}
 use Rattle.hier_machine.specs.Start.{Starts, asked_sizing}
 use Rattle.hier_machine.specs.State.{MachineState, guest_of_machine}
 
@@ -31,12 +31,15 @@ FailsToOpen settings file NoMemory = Unit {0}
 FailsToOpen settings file (NoRoom refusal) = (fault_of settings.geometry file ≡ None) × NoRoomFor (record { span = settings.geometry; file = file }) (asked_sizing settings) refusal
 
 -- A machine ran from its first state to an end: beat by beat, and so over the lists of both levels above plain contents;
--- and as the flat run from the same state. The program's end tells of it.
+-- and as the flat run from the same state. The program's end tells of it, and the store that it left is sound.
 pub record RunsToEnd (first : MachineState) (streams : Streams) (own : End) (last : MachineState) : Type 0 where
   pub end : MachineEnd
   pub run : RunsMachine first end last streams
   pub flat : FollowsFlat (guest_of_machine first) first.budget first.guest end last.guest streams
   pub told : IsEndOf first.memory.span (store_of last.memory) end own
+  pub crowded : IsCrowdedIfSpace (store_of last.memory) end
+  pub none_free : HasNoneIfSpace own
+  pub sound : IsSound (store_of last.memory)
 
 -- And then it settled, and gave the report.
 pub record RunsToReport (first : MachineState) (streams : Streams) (report : Report) (settled : MachineState) : Type 0 where

@@ -1,8 +1,11 @@
 -- The image, placed into a memory of pages.
-use Rattle.std.specs.Prelude.{◌≡◌, ◌≢◌, ◌≤◌, ◌⊎◌, ℕ, zero, suc, List, Ok, Err, IfErr, OnOk, length, replicate}
+use Rattle.std.specs.Prelude.{◌≡◌, ◌≢◌, ◌≤◌, ◌⊎◌, ℕ, zero, suc, List, Some, Ok, Err, IfErr, OnOk, length, replicate}
 use Rattle.hier_types.specs.Calls.{Answer}
 use Rattle.hier_types.specs.declared.faults.NoSpace.{NoSpace}
 use Rattle.elf_image.specs.Image.{Loaded, page_of}
+use Rattle.page_plan.specs.PagePlan.{plan_of}
+use Rattle.page_plan.specs.Pages.{lines_of_page}
+use Rattle.page_plan.specs.Sizes.{order_of}
 use Rattle.page_store.specs.Calls.{PlacesPage}
 use Rattle.page_store.specs.Crowds.{Tight}
 use Rattle.page_store.specs.Store.{Sizing, Store, fresh, sizing_of}
@@ -22,13 +25,14 @@ abbrev pub PlacedUpTo : Loaded → Sizing → ℕ → Store → Type 0
 PlacedUpTo image sizing zero s = s ≡ fresh sizing image.span.pages
 PlacedUpTo image sizing (suc page) s = (mid : Store) × PlacedUpTo image sizing page mid × PlacesBytes page (page_of image.span image.file page) mid s
 
--- A page found no room when those before it were placed. The image in the pages before it, and zeros elsewhere, are tight
--- for it and the order of its plan.
+-- A page found no room when those before it were placed. The refusal has the order of the page's plan in the image, and the
+-- image in the pages before it, and zeros elsewhere, are tight for it and that order.
 pub record NoRoomFor (image : Loaded) (sizing : Sizing) (refusal : NoSpace) : Type 0 where
   pub mid : Store
   pub placed : PlacedUpTo image sizing refusal.page.0 mid
   pub after : Store
   pub refused : PlacesPage mid refusal.page.0 (page_of image.span image.file refusal.page.0) (Err refusal) after
+  pub order : order_of (plan_of sizing.codec (lines_of_page (page_of image.span image.file refusal.page.0))) ≡ Some refusal.order
   pub tight : Tight sizing (lines_before image refusal.page.0) refusal.page.0 refusal.order
 
 -- A store in which no page of the image is placed yet.

@@ -5,7 +5,7 @@ use Rattle.hier_types.specs.declared.counts.L1Counts.{L1Counts}
 use Rattle.hier_types.specs.declared.settings.Codec.{Codec}
 use Rattle.l2_cache.specs.SecondLevel.{SecondLevel}
 use Rattle.page_plan.specs.Sizes.{sizes_of_memory}
-use Rattle.page_store.specs.Store.{Store, sizing_of}
+use Rattle.page_store.specs.Store.{IsSound, Store, sizing_of}
 use Rattle.run_report.specs.declared.end.End.{End}
 use Rattle.run_report.specs.declared.report.Counts.{Counts}
 use Rattle.run_report.specs.declared.report.Report.{Report}
@@ -33,8 +33,9 @@ abbrev pub SettledAs : Codec → List (List ℕ) → Answer → Settled → Type
 SettledAs codec lines (Ok u) settled = settled ≡ Done (sizes_of_memory codec lines)
 SettledAs codec lines (Err refusal) settled = settled ≡ Space refusal
 
--- The report has the counts as they stood, and what the settling came to.
+-- The report has the counts as they stood, and what the settling came to. The store is sound before it.
 pub record Reports (old : MachineState) (end : End) (report : Report) (new : MachineState) : Type 0 where
+  pub sound : IsSound (store_of old.memory)
   pub answer : Answer
   pub settles : SettlesMachine old answer new
   pub lists : ListsSettle (sizing_of (store_of old.memory)) (lists_of old) answer (lists_of new)

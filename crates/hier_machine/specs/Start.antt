@@ -10,7 +10,7 @@ use Rattle.hier_machine.specs.State.{MachineState}
 
 -- what sizes the store
 abbrev pub asked_sizing : Settings → Sizing
-asked_sizing settings = record { codec = settings.codec; frames = settings.frames }
+asked_sizing settings = record { codec = settings.codec; frames = settings.frames; meta = settings.meta }
 
 -- no level keeps a line, and nothing was counted
 abbrev pub start_second : Settings → Store → SecondLevel Store

@@ -10,6 +10,8 @@ use Rattle.hier_types.specs.declared.beats.Beat.{Beat}
 use Rattle.hier_types.specs.declared.beats.Beat.TheVariants.{Hart, Mover, Cleaner}
 use Rattle.hier_types.specs.declared.faults.NoSpace.{NoSpace}
 use Rattle.beat_runs.specs.Points.{Runs}
+use Rattle.page_store.specs.Crowds.{Crowded}
+use Rattle.page_store.specs.Store as pages
 use Rattle.page_store.specs.Store.{Sizing, sizing_of}
 use Rattle.rv_core.specs.Accesses.{accessed, value_of}
 use Rattle.hier_machine.specs.declared.ends.TraceEnd.{TraceEnd}
@@ -126,3 +128,8 @@ pub record RunsTrace (printed : Access → ℕ → List ℕ) (budget : ℕ) (bea
   pub run : Runs trace_stands (TraceBeats printed (sizing_of (store_of old.machine.memory))) beats budget old end new streams
   pub turns : CountsTurns beats old.machine run.count new.machine
   pub stays : KeepsSettings old.machine new.machine
+
+-- a store in which a trace ended with a refusal is crowded for it
+abbrev pub IsCrowdedAtEnd : pages.Store → TraceEnd → Type 0
+IsCrowdedAtEnd store (Space refusal) = Crowded store refusal
+IsCrowdedAtEnd store end = Unit {0}

@@ -99,3 +99,19 @@ impl Errand<L2<Pages>> for FlushSecond {
         self.answer = below.flush();
     }
 }
+
+/// Brings every page to its plan.
+#[derive(Drop)]
+pub struct Tidying;
+
+impl Errand<Pages> for Tidying {
+    ghost use Rattle.page_store.specs.Calls.{Tidies};
+
+    ghost may_go = { λ _ _. Unit {0} };
+
+    ghost did_go = { λ _ before _ after. Tidies before after };
+
+    fn go(&mut self, below: &mut Pages) {
+        below.tidy();
+    }
+}

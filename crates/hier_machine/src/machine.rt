@@ -1,8 +1,10 @@
 // The guest over its memory, beat by beat.
-ghost use Rattle.std.specs.Prelude.{◌≡◌, ◌*◌, ◌-◌, ◌^◌, ◌<◌, ◌≤◌, false, IfErr, IfOk, length, take, drop};
+ghost use Rattle.std.specs.Prelude.{◌≡◌, ◌*◌, ◌-◌, ◌^◌, ◌<◌, ◌≤◌, false, IfErr, IfOk, OnOk, length, take, drop};
 ghost use Rattle.hier_types.specs.Settings.{AreWithinRules};
 ghost use Rattle.hier_types.specs.Streams.{FaultsStay, went};
-ghost use Rattle.page_store.specs.Store.{sizing_of};
+ghost use Rattle.hier_types.specs.declared.faults.NoSpace.{NoSpace as Refusal};
+ghost use Rattle.page_store.specs.Crowds.{Crowded};
+ghost use Rattle.page_store.specs.Store.{AreAtPlan, IsSound, sizing_of};
 ghost use Rattle.rv_core.specs.Accesses.{IsAccess};
 ghost use Rattle.rv_guest.specs.FollowsFlat.{FollowsFlat};
 ghost use Rattle.rv_guest.specs.Start.{start_state};
@@ -15,13 +17,13 @@ ghost use Rattle.hier_machine.specs.Placed.{IsOpenFault};
 ghost use Rattle.hier_machine.specs.Reports.{Reports, counts_of};
 ghost use Rattle.hier_machine.specs.Runs.{RunsAreOne, RunsMachine};
 ghost use Rattle.hier_machine.specs.Settles.{ListsSettle, SettlesMachine};
-ghost use Rattle.hier_machine.specs.Spaces.{AreFreeCounts, IsEndOf, IsSpaceEnd};
+ghost use Rattle.hier_machine.specs.Spaces.{AreFreeCounts, AreNoneFrom, IsEndOf, IsSpaceEnd};
 ghost use Rattle.hier_machine.specs.Start.{Starts, StartsEmpty, asked_sizing, start_memory};
 ghost use Rattle.hier_machine.specs.State.{guest_of_machine};
 ghost use Rattle.run_report.specs.ReportLines.{HasBlocksIfDone};
 
 use crate::ends::{OpenFault, end_of};
-use crate::errands::{FlushSecond, place_under};
+use crate::errands::{FlushSecond, Through, Tidying, place_under};
 use crate::page_view::view_page;
 use beat_runs::{Runner, run};
 use elf_image::Image;
@@ -108,7 +110,13 @@ impl Machine {
         ensures guest { IfOk result (λ machine. machine.guest ≡ start_state settings.now.geometry entry end (guest_bytes machine.memory)) }
     {
         let beats = settings.beats.clone()?;
-        let store = Pages::new(alloc, settings.geometry, settings.frames, settings.codec)?;
+        let store = Pages::new(
+            alloc,
+            settings.geometry,
+            settings.frames,
+            settings.codec,
+            settings.meta,
+        )?;
         Ok(Machine {
             memory: levels_over(alloc, store, settings)?,
             guest: Guest::start(entry, end, &settings.geometry),
@@ -145,7 +153,8 @@ impl Machine {
 
     /// What both levels, the memory of pages and the turns of the mover and the cleaner have counted.
     pub fn counts(&self) -> Counts
-        ensures { result ≡ counts_of self.now }
+        ensures counts { result ≡ counts_of self.now }
+        ensures sound { IsSound (store_of self.now.memory) }
     {
         Counts {
             l1: self.memory.counts(),
@@ -214,9 +223,11 @@ impl Machine {
     }
 
     /// Writes every changed line down to the pages: those of the first level to the second, and then those of the second
-    /// to the store. It stops at the first one that is refused. No byte of the guest changes.
+    /// to the store. It stops at the first one that is refused; where none is, every page is then brought to its plan. No
+    /// byte of the guest changes.
     pub fn settle(&mut self) -> Result<(), NoSpace>
         ensures settles { SettlesMachine self.old result self.new }
+        ensures at_plan { OnOk result (AreAtPlan (store_of self.new.memory)) }
         ensures lists { ListsSettle (sizing_of (store_of self.old.memory)) (lists_of self.old) result (lists_of self.new) }
     {
         if let Err(refusal) = self.memory.flush() {
@@ -224,7 +235,11 @@ impl Machine {
         }
         let mut flush = FlushSecond::new();
         self.memory.below_do(&mut flush);
-        flush.answer
+        if let Err(refusal) = flush.answer {
+            return Err(refusal);
+        }
+        self.memory.below_do(&mut Through { errand: Tidying });
+        Ok(())
     }
 
     /// The report of a run or a trace that came to this end: its counts as they stand now, and then what the pages take
@@ -263,8 +278,11 @@ impl Machine {
 
     /// The program's end for a run's: of a refused block it tells the page, the order and what is free now.
     pub fn told(&self, end: MachineEnd) -> End
-        ensures { IsEndOf self.now.memory.span (store_of self.now.memory) end result }
+        ensures told { IsEndOf self.now.memory.span (store_of self.now.memory) end result }
+        ensures sound { IsSound (store_of self.now.memory) }
     {
+        // With its counts the memory of pages tells that it is sound.
+        let _counts = self.pages().counts();
         match end_of(end) {
             Ok(end) => end,
             Err(refusal) => self.space(refusal),
@@ -366,7 +384,8 @@ fn levels_over(alloc: Global, store: Pages, settings: &Settings) -> Result<L1<L2
 
 /// The free blocks of each order.
 fn free_counts(store: &Pages) -> [u32; 4]
-    ensures { AreFreeCounts store.now.used result }
+    ensures counts { AreFreeCounts store.now.used result }
+    ensures none_free { (refusal : Refusal) → Crowded store.now refusal → AreNoneFrom refusal.order result }
 {
     [store.free(0), store.free(1), store.free(2), store.free(3)]
 }

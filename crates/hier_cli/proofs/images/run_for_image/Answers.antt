@@ -1,11 +1,7 @@
-use Rattle.std.proofs.Common.{subst}
-use Rattle.hier_types.specs.Span.{Span}
 use Rattle.hier_types.specs.Streams.{Streams, streams, use_of}
 use Rattle.run_report.specs.declared.end.End.TheVariants.{OutFault}
-use Rattle.hier_machine.specs.FileRuns.{RunsToEnd, dropped}
-use Rattle.hier_machine.specs.Memory.{store_of}
-use Rattle.hier_machine.specs.Spaces.{IsEndOf}
-use Rattle.hier_machine.proofs.FileRunLemmas.{begins_within, runs_file}
+use Rattle.hier_machine.specs.FileRuns.{dropped}
+use Rattle.hier_machine.proofs.FileRunLemmas.{begins_within, runs_file, runs_to_end}
 use Rattle.hier_cli.specs.Images.{image_text}
 use Rattle.hier_cli.proofs.NoticeLemmas.{is_written}
 use Rattle.hier_cli.proofs.images.run_for_image.Goals as goal
@@ -23,8 +19,8 @@ returns-clause-ends g c =
     let end = c.run-end.result in
     let own = c.told-own.result in
     let alone : Streams = streams (use_of g.I.Source.left g.I.Source.faults c.args.input.now c.run-end.new.input) dropped in
-    let told = subst (λ (span : Span). IsEndOf span (store_of last.memory) end own) c.run-end.ensures.runs.stays.span c.told-own.ensures in
-    let ran : RunsToEnd first alone own last = record { end = end; run = c.run-end.ensures.runs; flat = c.run-end.ensures.follows; told = told } in
+    let told = c.told-own.ensures in
+    let ran = runs_to_end first end last alone own c.run-end.ensures.runs c.run-end.ensures.follows told.told told.sound in
     let printed = c.print_pages-printed.ensures in
     record {
       last = last;

@@ -12,13 +12,14 @@ returns-in-Ok-clause-reports c =
     let totals : c.totals.result ≡ sizes_of_memory store.codec store.lines =
     c.totals.ensures ∙ ap (λ (s : Store). sizes_of_memory s.codec s.lines) c.pages.ensures in
     record {
+      sound = c.counts-counts.ensures.sound;
       answer = c.settle.result;
       settles = c.settle.ensures.settles;
       lists = c.settle.ensures.lists;
       settled = settled_done c.args.self.now c.settle.new.self c.settle.result c.totals.result c.settle.ensures.settles c.in-Ok.is totals;
       end_is = refl;
       retired = c.retired-retired.ensures;
-      counts = c.counts-counts.ensures;
+      counts = c.counts-counts.ensures.counts;
     }
 
 pub returns-in-Ok-clause-blocks : goal.returns-in-Ok-clause-blocks
