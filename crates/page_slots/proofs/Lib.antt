@@ -1,0 +1,7 @@
+pub mod CountLemmas
+pub mod FormLemmas
+pub mod LaidLemmas
+pub mod LineLemmas
+pub mod PutLemmas
+pub mod SoundLemmas
+pub mod TableLemmas

@@ -1,0 +1,23 @@
+-- Where the slots of a page are, and how many chunks its block has.
+use Rattle.std.specs.Prelude.{ℕ, ◌≡◌, ◌+◌, ◌*◌, ◌≤◌, nat_lt, if◌then◌else◌}
+use Rattle.line_codec.specs.Layout.{cap, slot_at}
+use Rattle.page_slots.specs.declared.form.Form.{Form}
+
+-- in a packed page all slots have the same length
+abbrev pub packed_form : ℕ → ℕ → Form
+packed_form order target = record { small = target; large = target; at = 0; chunks = cap order }
+
+-- the slots lie in a block of so many bytes
+pub record IsForm (form : Form) (size : ℕ) : Type 0 where
+  pub ordered : form.small ≤ form.large
+  pub slots_in : 1 + form.large ≤ form.chunks
+  pub few : form.chunks ≤ 32
+  pub is_size : size ≡ 64 * form.chunks
+
+-- the bytes of the slot of line i
+unfoldable pub room : Form → ℕ → ℕ
+room form i = if nat_lt i form.at then form.small else form.large
+
+-- its first byte, counted from the block's first byte
+unfoldable pub slot_start : Form → ℕ → ℕ
+slot_start form i = slot_at (room form i) i

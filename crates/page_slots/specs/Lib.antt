@@ -1,0 +1,6 @@
+pub mod Descs
+pub mod Forms
+pub mod Laid
+pub mod Lines
+pub mod Puts
+pub mod Sound

@@ -1,0 +1,17 @@
+//! One page in the bytes of its block: the slots and the chunks of its lines, and how they are read and written.
+//! Contracts see a page as the list of its 64 lines, which a descriptor and the bytes of the block determine.
+//! It never looks at the bytes of another page, never takes or gives back a block, and never picks a page's target.
+#![tactic(auto)]
+
+mod desc;
+mod form;
+mod laying;
+mod putting;
+mod reading;
+#[cfg(test)]
+mod tests;
+
+pub use desc::Desc;
+pub use laying::{lay, lay_raw, packed_pages_have_room};
+pub use putting::{PutResult, put};
+pub use reading::{gather, get};

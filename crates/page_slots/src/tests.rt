@@ -1,0 +1,123 @@
+ghost use Rattle.std.specs.Prelude.{◌≡◌, ◌≢◌, ◌≤◌, if◌then◌else◌};
+ghost use Rattle.line_codec.specs.Slots.{fits};
+ghost use Rattle.line_codec.specs.Layout.{stored_sizes, chunks_of};
+ghost use Rattle.page_slots.specs.Sound.{IsSound};
+
+use super::*;
+use buddy_frames::{Block, Frames};
+use hier_types::{Codec, Line};
+use line_codec::stored_size;
+use sample_lines::{plain, rising};
+
+/// The chunks that a line takes beside its slot of so many bytes.
+fn chunks_beside(codec: Codec, target: u8, line: &Line) -> u8
+    ensures { result ≡ if fits codec target line.now then 0 else 1 }
+{
+    match stored_size(codec, line) {
+        Some(size) if size <= target => 0,
+        _ => 1,
+    }
+}
+
+/// The chunks that a packed page of these lines takes.
+fn chunks_for(codec: Codec, target: u8, lines: &[Line; 64]) -> u8
+    requires { target ≤ 28 }
+    ensures { result ≡ chunks_of (stored_sizes codec lines.now) target }
+{
+    let mut chunks = 1 + target;
+    for index in 0..64usize {
+        chunks += chunks_beside(codec, target, &lines[index]);
+    }
+    chunks
+}
+
+/// A page of zeros but for its first lines.
+fn page_of(first: Line, count: usize) -> [Line; 64] {
+    let mut page = [[0; 64]; 64];
+    for index in 0..64usize {
+        if index < count {
+            page[index] = first;
+        }
+    }
+    page
+}
+
+/// A page in slots of four bytes, in the least block.
+fn laid(codec: Codec, lines: &[Line; 64], block: Block, bytes: &mut [u8; 512]) -> Desc
+    requires order { block.order ≡ 0 }
+    requires room { chunks_of (stored_sizes codec lines.now) 4 ≤ 8 }
+    ensures sound { IsSound codec result bytes.new }
+    ensures not_zero { result ≢ Desc.Zero }
+{
+    lay(codec, 4, lines, bytes);
+    Desc::Packed { block, target: 4 }
+}
+
+#[test]
+fn lines_fill_and_leave_the_chunks(rt: HostRuntime) {
+    for codec in [Codec::Bdi, Codec::Fpc] {
+        let Ok(mut frames) = Frames::new(rt.alloc(), 1) else {
+            panic!(rt; "no memory");
+        };
+        let Some(block) = frames.take(0) else {
+            panic!(rt; "no unit");
+        };
+        assert_eq!(rt; block.order(), 0);
+        let lines = page_of(plain(), 3);
+        assert_eq!(rt; chunks_for(codec, 4, &lines), 8);
+        let mut bytes = [0; 512];
+        let desc = laid(codec, &lines, block, &mut bytes);
+        assert_eq!(rt;
+            [bytes[0], bytes[1], bytes[2], bytes[3]],
+            [0x85, 0x86, 0x87, 0x40]
+        );
+        let before = bytes;
+        assert_eq!(rt;
+            put(codec, &desc, &mut bytes, 9, &plain()),
+            PutResult::Overflow
+        );
+        assert_eq!(rt; bytes, before);
+        assert_eq!(rt; put(codec, &desc, &mut bytes, 0, &[0; 64]), PutResult::Done);
+        assert_eq!(rt; bytes[0], 0x40);
+        assert_eq!(rt;
+            put(codec, &desc, &mut bytes, 60, &plain()),
+            PutResult::Done
+        );
+        assert_eq!(rt; bytes[60], 0x85);
+        let mut found = [0; 64];
+        get(&desc, &bytes, 60, &mut found);
+        assert_eq!(rt; found, plain());
+    }
+}
+
+#[test]
+fn raw_lines_have_their_places(rt: HostRuntime) {
+    let Ok(mut frames) = Frames::new(rt.alloc(), 1) else {
+        panic!(rt; "no memory");
+    };
+    let Some(block) = frames.take(3) else {
+        panic!(rt; "no frame");
+    };
+    assert_eq!(rt; block.order(), 3);
+    let mut lines = page_of(plain(), 64);
+    let mut bytes = [0; 4096];
+    lay_raw(&lines, &mut bytes);
+    let desc = Desc::Raw { block };
+    let line = rising(1, 1);
+    assert_eq!(rt;
+        put(Codec::Bdi, &desc, &mut bytes, 63, &line),
+        PutResult::Done
+    );
+    assert_eq!(rt; [bytes[4031], bytes[4032], bytes[4033]], [0x12, 1, 0]);
+    lines[63] = line;
+    let mut found = [[0; 64]; 64];
+    gather(&desc, &bytes, &mut found);
+    assert!(rt; found == lines);
+}
+
+#[test]
+fn zero_pages_have_no_bytes(rt: HostRuntime) {
+    let mut found = plain();
+    get(&Desc::Zero, &[], 5, &mut found);
+    assert_eq!(rt; found, [0; 64]);
+}
