@@ -114,14 +114,14 @@ exceptions_have_room codec form size bytes lines is count flat has =
 
 -- a sound packed page can be laid in its block again
 pub packed_room : PackedPagesHaveRoom
-packed_room codec block target bytes sound =
-    let form = packed_form block.order target in
+packed_room codec order target bytes sound =
+    let form = packed_form order target in
     let lines = tabulate (content_at form bytes) 64 in
     let count : length lines ≡ 64 = length-tabulate (content_at form bytes) 64 in
-    let is = packed_is_form block.order target (length bytes) sound.holds in
+    let is = packed_is_form order target (length bytes) sound.holds in
     let has : HasLines codec form bytes (λ i. get_or lines i []) = record {
       has = λ i i_in. subst (HasLine codec form bytes i) (sym (get_or-tabulate [] (content_at form bytes) 64 i i_in)) (sound.lines.has i i_in);
       apart = sound.lines.apart;
     } in
     let all : take 64 (stored_sizes codec lines) ≡ stored_sizes codec lines = take_all 64 (stored_sizes codec lines) (omega (arith, count, length-map lines (stored codec))) in
-    subst (λ (sizes : List (Option ℕ)). chunks_of sizes target ≤ cap block.order) all (exceptions_have_room codec form (length bytes) bytes lines is count refl has)
+    subst (λ (sizes : List (Option ℕ)). chunks_of sizes target ≤ cap order) all (exceptions_have_room codec form (length bytes) bytes lines is count refl has)

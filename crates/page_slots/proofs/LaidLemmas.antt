@@ -7,7 +7,6 @@ use Rattle.std.proofs.lemmas.List.{get_or-map, length-map}
 use Rattle.std.proofs.lemmas.List.Sums.{count_by_more_no, count_by_more_yes, sum_by-take-le}
 use Rattle.hier_types.specs.declared.settings.Codec.{Codec}
 use Rattle.hier_types.proofs.TableLemmas.{tabulate-by_index}
-use Rattle.buddy_frames.specs.Units.{Place}
 use Rattle.line_codec.specs.Slots.{stored, fits}
 use Rattle.line_codec.specs.Layout.{IsTarget, cap, stored_sizes, is_exception, exceptions_of, chunks_of}
 use Rattle.line_codec.proofs.LayoutLemmas.{is_exception-fits}
@@ -147,10 +146,10 @@ laid_all codec form lines bytes laid = record {
   ];
 }
 
-pub laid_by : (codec : Codec) (block : Place) (target : ℕ) (lines : List (List ℕ)) (size : ℕ) (bytes : List ℕ) → IsTarget target → IsPackedSize block.order size → length bytes ≡ size
-    → 1 + target ≤ cap block.order → length lines ≡ 64 → LaidUpTo codec (packed_form block.order target) lines 64 bytes → IsLaid codec block target lines bytes
-laid_by codec block target lines size bytes is_target is_size same slots_in whole laid =
-    let form = packed_form block.order target in
+pub laid_by : (codec : Codec) (order target : ℕ) (lines : List (List ℕ)) (size : ℕ) (bytes : List ℕ) → IsTarget target → IsPackedSize order size → length bytes ≡ size
+    → 1 + target ≤ cap order → length lines ≡ 64 → LaidUpTo codec (packed_form order target) lines 64 bytes → IsLaid codec order target lines bytes
+laid_by codec order target lines size bytes is_target is_size same slots_in whole laid =
+    let form = packed_form order target in
     record {
       sound = record {
         holds = record { order_in = is_size.0; is_target = is_target; slots_in = slots_in; is_size = same ∙ is_size.1 };

@@ -2,8 +2,8 @@
 use Rattle.std.specs.Prelude.{ℕ, ◌≡◌, ◌≢◌, ◌+◌, ◌<◌, ◌≤◌, true, false, List, Option, Some, None, length, ◌==◌, if◌then◌else◌}
 use Rattle.hier_types.specs.declared.settings.Codec.{Codec}
 use Rattle.line_codec.specs.Slots.{fits}
-use Rattle.page_slots.specs.declared.desc.Desc.{Desc}
-use Rattle.page_slots.specs.declared.desc.Desc.TheVariants.{Packed}
+use Rattle.page_slots.specs.declared.desc.Shape.{Shape}
+use Rattle.page_slots.specs.declared.desc.Shape.TheVariants.{Packed}
 use Rattle.page_slots.specs.declared.form.Form.{Form}
 use Rattle.page_slots.specs.Forms.{packed_form, room}
 use Rattle.page_slots.specs.Lines.{meta, chunk_of, mark, HasLine}
@@ -44,14 +44,14 @@ pub record GoesToPlace (codec : Codec) (form : Form) (line : ℕ) (from old new 
   pub others : (i : ℕ) → i < 64 → i ≢ line → meta new i ≡ meta old i
 
 -- there is no place for the line: in a page whose lines stand one after another there always is one
-abbrev pub Overflows : Codec → Desc → List ℕ → ℕ → List ℕ → Type 0
-Overflows codec (Packed block target) bytes line from = HasNoPlace codec (packed_form block.order target) bytes line from
-Overflows codec desc bytes line from = ⊥
+abbrev pub Overflows : Codec → Shape → List ℕ → ℕ → List ℕ → Type 0
+Overflows codec (Packed order target) bytes line from = HasNoPlace codec (packed_form order target) bytes line from
+Overflows codec shape bytes line from = ⊥
 
 -- the line went where it belongs: in a page whose lines stand one after another each has its one place
-abbrev pub GoesRight : Codec → Desc → ℕ → List ℕ → List ℕ → List ℕ → Type 0
-GoesRight codec (Packed block target) line from old new = GoesToPlace codec (packed_form block.order target) line from old new
-GoesRight codec desc line from old new = Unit {0}
+abbrev pub GoesRight : Codec → Shape → ℕ → List ℕ → List ℕ → List ℕ → Type 0
+GoesRight codec (Packed order target) line from old new = GoesToPlace codec (packed_form order target) line from old new
+GoesRight codec shape line from old new = Unit {0}
 
 -- the lines with another one in place of line `line`
 abbrev pub with_line : (ℕ → List ℕ) → ℕ → List ℕ → ℕ → List ℕ

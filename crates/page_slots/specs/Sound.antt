@@ -1,9 +1,9 @@
--- Pages whose bytes are as their descriptors say.
+-- Pages whose bytes are as their shapes say.
 use Rattle.std.specs.Prelude.{ℕ, ◌≡◌, ◌+◌, ◌*◌, ◌≤◌, List, length}
 use Rattle.hier_types.specs.declared.settings.Codec.{Codec}
 use Rattle.line_codec.specs.Layout.{IsTarget, cap}
-use Rattle.page_slots.specs.declared.desc.Desc.{Desc}
-use Rattle.page_slots.specs.declared.desc.Desc.TheVariants.{Zero, Raw, Packed}
+use Rattle.page_slots.specs.declared.desc.Shape.{Shape}
+use Rattle.page_slots.specs.declared.desc.Shape.TheVariants.{Zero, Raw, Packed}
 use Rattle.page_slots.specs.Forms.{packed_form}
 use Rattle.page_slots.specs.Lines.{content_at, HasLines}
 
@@ -19,7 +19,8 @@ pub record IsPacked (codec : Codec) (order target : ℕ) (bytes : List ℕ) : Ty
   pub holds : HoldsSlots order target (length bytes)
   pub lines : HasLines codec (packed_form order target) bytes (content_at (packed_form order target) bytes)
 
-abbrev pub IsSound : Codec → Desc → List ℕ → Type 0
+-- the bytes of a page are as its shape says
+abbrev pub IsSound : Codec → Shape → List ℕ → Type 0
 IsSound codec Zero bytes = length bytes ≡ 0
-IsSound codec (Raw block) bytes = (block.order ≡ 3) × (length bytes ≡ 4096)
-IsSound codec (Packed block target) bytes = IsPacked codec block.order target bytes
+IsSound codec Raw bytes = length bytes ≡ 4096
+IsSound codec (Packed order target) bytes = IsPacked codec order target bytes

@@ -2,13 +2,12 @@
 ghost use Rattle.std.specs.Prelude.{◌≡◌, ◌<◌, ◌≤◌, ◌+◌, ◌*◌, ℕ, length};
 ghost use Rattle.hier_types.specs.declared.settings.Codec.{Codec as AnyCodec};
 ghost use Rattle.line_codec.specs.Layout.{IsTarget, stored_sizes, chunks_of};
-ghost use Rattle.buddy_frames.specs.Units.{Place};
 ghost use Rattle.page_slots.specs.Descs.{content_of};
 ghost use Rattle.page_slots.specs.Forms.{IsForm, packed_form};
 ghost use Rattle.page_slots.specs.Laid.{IsPackedSize, next_chunk, LaidUpTo, IsLaid, PackedPagesHaveRoom};
 ghost use Rattle.page_slots.specs.Sound.{IsSound};
 
-use crate::desc::Desc;
+use crate::desc::Shape;
 use crate::form::Form;
 use crate::putting::{put_chunk, put_slot, write_chunk};
 use hier_types::{Codec, Line};
@@ -71,8 +70,8 @@ pub fn lay(codec: Codec, target: u8, lines: &[Line; 64], bytes: &mut [u8])
     requires is_target { IsTarget target }
     requires is_size { (order : ℕ) × IsPackedSize order (length bytes.old) }
     requires room { 64 * chunks_of (stored_sizes codec lines.now) target ≤ length bytes.old }
-    ensures { (block : Place) → IsPackedSize block.order (length bytes.old)
-        → IsLaid codec block target lines.now bytes.new }
+    ensures { (order : ℕ) → IsPackedSize order (length bytes.old)
+        → IsLaid codec order target lines.now bytes.new }
 {
     let form = form_in(target, bytes.len());
     lay_lines(codec, form, lines, bytes);
@@ -81,8 +80,8 @@ pub fn lay(codec: Codec, target: u8, lines: &[Line; 64], bytes: &mut [u8])
 /// Writes the lines one after another, over whatever stands in the block, which has to have a page's 4,096 bytes.
 pub fn lay_raw(lines: &[Line; 64], bytes: &mut [u8])
     requires { length bytes.old ≡ 4096 }
-    ensures sound { (codec : AnyCodec) (block : Place) → block.order ≡ 3 → IsSound codec (Desc.Raw block) bytes.new }
-    ensures content { (block : Place) → content_of (Desc.Raw block) bytes.new ≡ lines.now }
+    ensures sound { (codec : AnyCodec) → IsSound codec Shape.Raw bytes.new }
+    ensures content { content_of Shape.Raw bytes.new ≡ lines.now }
 {
     for line in 0..64u8 {
         write_chunk(bytes, line, &lines[line as usize]);

@@ -11,7 +11,7 @@ mod reading;
 #[cfg(test)]
 mod tests;
 
-pub use desc::Desc;
+pub use desc::{Desc, Shape};
 pub use laying::{lay, lay_raw, packed_pages_have_room};
 pub use putting::{PutResult, put};
 pub use reading::{gather, get};

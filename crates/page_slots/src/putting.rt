@@ -3,13 +3,13 @@ ghost use Rattle.std.specs.Prelude.{◌≡◌, ◌≢◌, ◌↔◌, ◌<◌, �
 ghost use Rattle.hier_types.specs.declared.settings.Codec.{Codec as AnyCodec};
 ghost use Rattle.line_codec.specs.Slots.{encoding, fits, Begins};
 ghost use Rattle.byte_parts.specs.Parts.{part, ChangesWithin};
-ghost use Rattle.page_slots.specs.Descs.{content_of};
+ghost use Rattle.page_slots.specs.Descs.{shape_of, content_of};
 ghost use Rattle.page_slots.specs.Forms.{IsForm, room};
 ghost use Rattle.page_slots.specs.Lines.{meta, chunk_of, chunk, mark, HasLines, HasOthers};
 ghost use Rattle.page_slots.specs.Puts.{IsFree, IsTaken, AllTaken, IsLowestFree, HasNoPlace, GoesToPlace, Overflows, GoesRight, PutsLine, with_line};
 ghost use Rattle.page_slots.specs.Sound.{IsSound};
 
-use crate::desc::Desc;
+use crate::desc::{Desc, Shape};
 use crate::form::{Form, packed_form};
 use byte_parts::write_part;
 use hier_types::{Codec, Line};
@@ -139,23 +139,23 @@ fn put_packed(codec: Codec, form: Form, bytes: &mut [u8], line: u8, from: &Line)
 /// those of the page's block. It looks at no other line, but for the metadata where a free chunk is sought.
 pub fn put(codec: Codec, desc: &Desc, bytes: &mut [u8], line: u8, from: &Line) -> PutResult
     requires not_zero { desc.now ≢ Desc.Zero }
-    requires sound { IsSound codec desc.now bytes.old }
+    requires sound { IsSound codec (shape_of desc.now) bytes.old }
     requires line_in { line < 64 }
-    ensures sound { IsSound codec desc.now bytes.new }
+    ensures sound { IsSound codec (shape_of desc.now) bytes.new }
     ensures content { result ≡ PutResult.Done
-        → content_of desc.now bytes.new ≡ slice_set (content_of desc.now bytes.old) line from.now }
-    ensures right { result ≡ PutResult.Done → GoesRight codec desc.now line from.now bytes.old bytes.new }
-    ensures overflow { result ≡ PutResult.Overflow ↔ Overflows codec desc.now bytes.old line from.now }
+        → content_of (shape_of desc.now) bytes.new ≡ slice_set (content_of (shape_of desc.now) bytes.old) line from.now }
+    ensures right { result ≡ PutResult.Done → GoesRight codec (shape_of desc.now) line from.now bytes.old bytes.new }
+    ensures overflow { result ≡ PutResult.Overflow ↔ Overflows codec (shape_of desc.now) bytes.old line from.now }
     ensures unchanged { result ≡ PutResult.Overflow → bytes.new ≡ bytes.old }
 {
-    match desc {
-        Desc::Zero => unreachable!(),
-        Desc::Raw { .. } => {
+    match desc.shape() {
+        Shape::Zero => unreachable!(),
+        Shape::Raw => {
             write_chunk(bytes, line, from);
             PutResult::Done
         }
-        Desc::Packed { block, target } => {
-            let form = packed_form(block.order(), *target);
+        Shape::Packed { order, target } => {
+            let form = packed_form(order, target);
             put_packed(codec, form, bytes, line, from)
         }
     }

@@ -3,12 +3,12 @@ ghost use Rattle.std.specs.Prelude.{◌≡◌, ◌<◌, ◌≤◌, ◌+◌, ◌*
 ghost use Rattle.hier_types.specs.declared.settings.Codec.{Codec as AnyCodec};
 ghost use Rattle.line_codec.specs.Slots.{Says};
 ghost use Rattle.byte_parts.specs.Parts.{part};
-ghost use Rattle.page_slots.specs.Descs.{content_of};
+ghost use Rattle.page_slots.specs.Descs.{shape_of, line_of, content_of};
 ghost use Rattle.page_slots.specs.Forms.{IsForm};
 ghost use Rattle.page_slots.specs.Lines.{chunk, content_at, HasLine};
 ghost use Rattle.page_slots.specs.Sound.{IsSound};
 
-use crate::desc::Desc;
+use crate::desc::{Desc, Shape};
 use crate::form::{Form, packed_form};
 use byte_parts::read_part;
 use hier_types::Line;
@@ -48,31 +48,49 @@ fn read_packed(form: Form, bytes: &[u8], line: u8, into: &mut Line)
     }
 }
 
-/// Reads one line of a page. `bytes` are those of the page's block, and none where the page is zero. The page has to be
-/// sound under some codec: which one, the slot tells. It reads the line's metadata, and its slot or its chunk.
-pub fn get(desc: &Desc, bytes: &[u8], line: u8, into: &mut Line)
+fn read_line(shape: Shape, bytes: &[u8], line: u8, into: &mut Line)
     requires line_in { line < 64 }
-    requires sound { (codec : AnyCodec) × IsSound codec desc.now bytes.now }
-    ensures { slice_get (content_of desc.now bytes.now) line ≡ Some into.new }
+    requires sound { (codec : AnyCodec) × IsSound codec shape bytes.now }
+    ensures { into.new ≡ line_of shape bytes.now line }
 {
-    match desc {
-        Desc::Zero => into.fill(0),
-        Desc::Raw { .. } => read_chunk(bytes, line, into),
-        Desc::Packed { block, target } => {
-            let form = packed_form(block.order(), *target);
+    match shape {
+        Shape::Zero => into.fill(0),
+        Shape::Raw => read_chunk(bytes, line, into),
+        Shape::Packed { order, target } => {
+            let form = packed_form(order, target);
             read_packed(form, bytes, line, into);
         }
     }
 }
 
+/// Reads one line of a page. `bytes` are those of the page's block, and none where the page is zero. The page has to be
+/// sound under some codec: which one, the slot tells. It reads the line's metadata, and its slot or its chunk.
+pub fn get(desc: &Desc, bytes: &[u8], line: u8, into: &mut Line)
+    requires line_in { line < 64 }
+    requires sound { (codec : AnyCodec) × IsSound codec (shape_of desc.now) bytes.now }
+    ensures { slice_get (content_of (shape_of desc.now) bytes.now) line ≡ Some into.new }
+{
+    read_line(desc.shape(), bytes, line, into);
+}
+
 /// Reads all lines of a page, on the terms of [`get`].
 pub fn gather(desc: &Desc, bytes: &[u8], into: &mut [Line; 64])
-    requires { (codec : AnyCodec) × IsSound codec desc.now bytes.now }
-    ensures { into.new ≡ content_of desc.now bytes.now }
+    requires { (codec : AnyCodec) × IsSound codec (shape_of desc.now) bytes.now }
+    ensures { into.new ≡ content_of (shape_of desc.now) bytes.now }
 {
-    for line in 0..64u8 {
-        let mut found = [0; 64];
-        get(desc, bytes, line, &mut found);
-        into[line as usize] = found;
+    desc.shape().gather(bytes, into);
+}
+
+impl Shape {
+    /// Reads all lines of a page of this shape, whose block may be another one by now.
+    pub fn gather(self, bytes: &[u8], into: &mut [Line; 64])
+        requires { (codec : AnyCodec) × IsSound codec self bytes.now }
+        ensures { into.new ≡ content_of self bytes.now }
+    {
+        for line in 0..64u8 {
+            let mut found = [0; 64];
+            read_line(self, bytes, line, &mut found);
+            into[line as usize] = found;
+        }
     }
 }

@@ -2,6 +2,7 @@ ghost use Rattle.std.specs.Prelude.{◌≡◌, ◌≢◌, ◌≤◌, if◌then�
 ghost use Rattle.line_codec.specs.Slots.{fits};
 ghost use Rattle.line_codec.specs.Layout.{stored_sizes, chunks_of};
 ghost use Rattle.page_slots.specs.Sound.{IsSound};
+ghost use Rattle.page_slots.specs.Descs.{shape_of};
 
 use super::*;
 use buddy_frames::{Block, Frames};
@@ -46,7 +47,7 @@ fn page_of(first: Line, count: usize) -> [Line; 64] {
 fn laid(codec: Codec, lines: &[Line; 64], block: Block, bytes: &mut [u8; 512]) -> Desc
     requires order { block.order ≡ 0 }
     requires room { chunks_of (stored_sizes codec lines.now) 4 ≤ 8 }
-    ensures sound { IsSound codec result bytes.new }
+    ensures sound { IsSound codec (shape_of result) bytes.new }
     ensures not_zero { result ≢ Desc.Zero }
 {
     lay(codec, 4, lines, bytes);

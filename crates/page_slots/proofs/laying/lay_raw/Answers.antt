@@ -18,5 +18,5 @@ loop-line-preserved c =
     }
 
 pub returns-clause-content : goal.returns-clause-content
-returns-clause-content c block =
+returns-clause-content c =
     sym (tabulate-by_index [] (chunk c.loop-line.bytes) 64 c.args.lines.now (search rules) (λ i lt. sym (c.loop-line.invariant.laid i (omega arith))))
