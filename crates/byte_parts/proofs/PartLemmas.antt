@@ -1,15 +1,16 @@
 -- Writes to a part of a list.
-use Rattle.std.proofs.Common.{rules, ◌≡◌, ℕ, ◌+◌, ◌-◌, ◌<◌, ◌≤◌, ◌⊎◌, List, length, take, drop, get_or, ◌∙◌, sym, subst, arith, inl, inr}
+use Rattle.std.proofs.Common.{rules, ◌≡◌, ℕ, ◌+◌, ◌-◌, ◌<◌, ◌≤◌, ◌⊎◌, List, length, take, drop, get_or, ◌∙◌, ap, sym, subst, arith, inl, inr}
+use Rattle.std.proofs.lemmas.Bool.{cases_lt}
 use Rattle.std.proofs.lemmas.List.{get_or-take, get_or-drop, length-take, length-drop, length-append, same_lists, places}
 use borrow.Rule.Slice.PartMut.{put_mid}
 use Rattle.std.proofs.lemmas.Slice.{between-put_mid}
-use Rattle.byte_parts.specs.Parts.{part, ChangesWithin}
+use Rattle.byte_parts.specs.Parts.{part, written, ChangesWithin}
 
 pub length-part : (at n : ℕ) (bytes : List ℕ) → at + n ≤ length bytes → length (part at n bytes) ≡ n
 unfolding part
 length-part at n bytes within = simp (length-take, length-drop) (omega arith)
 
-get_or-part : (at n : ℕ) (bytes : List ℕ) (k d : ℕ) → k < n → get_or (part at n bytes) k d ≡ get_or bytes (at + k) d
+pub get_or-part : (at n : ℕ) (bytes : List ℕ) (k d : ℕ) → k < n → get_or (part at n bytes) k d ≡ get_or bytes (at + k) d
 unfolding part
 get_or-part at n bytes k d within = get_or-take n (drop at bytes) k d within ∙ get_or-drop at bytes k d
 
@@ -24,6 +25,33 @@ pub part_stays : (at n i m : ℕ) (old new : List ℕ) → ChangesWithin at n ol
 part_stays at n i m old new change within apart =
     parts_same i i m new old (omega (arith, change.same_length)) within
     (λ k d below. change.others (i + k) d (elim apart [ inl a ↦ inl (omega arith) | inr b ↦ inr (omega arith) ]))
+
+length-written : (at : ℕ) (bytes old : List ℕ) → at + length bytes ≤ length old → length (written at bytes old) ≡ length old
+length-written at bytes old within = simp (length-append, length-take, length-drop) (omega arith)
+
+written-below : (at : ℕ) (bytes old : List ℕ) (k d : ℕ) → at ≤ length old → k < at → get_or (written at bytes old) k d ≡ get_or old k d
+written-below at bytes old k d within low = grind (arith, places)
+
+written-inside : (at : ℕ) (bytes old : List ℕ) (k d : ℕ) → at ≤ length old → at ≤ k → k < at + length bytes → get_or (written at bytes old) k d ≡ get_or bytes (k - at) d
+written-inside at bytes old k d within high low = grind (arith, places)
+
+written-above : (at : ℕ) (bytes old : List ℕ) (k d : ℕ) → at + length bytes ≤ length old → at + length bytes ≤ k → get_or (written at bytes old) k d ≡ get_or old k d
+written-above at bytes old k d within high = grind (arith, places)
+
+-- a write to a part, as the list that it leaves
+pub written_is : (at n : ℕ) (bytes old new : List ℕ) → length bytes ≡ n → at + n ≤ length old → ChangesWithin at n old new → part at n new ≡ bytes → new ≡ written at bytes old
+written_is at n bytes old new long within change there =
+    same_lists new (written at bytes old) (change.same_length ∙ sym (length-written at bytes old (omega arith)))
+    (λ k d k_in. elim (cases_lt k at) [
+      | inl low ↦ change.others k d (inl low) ∙ sym (written-below at bytes old k d (omega arith) low)
+      | inr high ↦ elim (cases_lt k (at + n)) [
+        | inl inside ↦
+            let e : at + (k - at) ≡ k = omega arith in
+            subst (λ (j : ℕ). get_or new j d ≡ get_or (written at bytes old) k d) e
+            (sym (get_or-part at n new (k - at) d (omega arith)) ∙ ap (λ (b : List ℕ). get_or b (k - at) d) there ∙ sym (written-inside at bytes old k d (omega arith) (omega arith) (omega arith)))
+        | inr past ↦ change.others k d (inr (omega arith)) ∙ sym (written-above at bytes old k d (omega arith) (omega arith))
+      ]
+    ])
 
 put_mid-below : (at k : ℕ) (xs ys : List ℕ) (i d : ℕ) → at ≤ length xs → i < at → get_or (put_mid at k xs ys) i d ≡ get_or xs i d
 put_mid-below at k xs ys i d within low = search (rules, places)

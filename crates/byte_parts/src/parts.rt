@@ -1,6 +1,6 @@
 // Parts of a row of bytes. All indexes and counts are in bytes.
 ghost use Rattle.std.specs.Prelude.{◌≡◌, ◌≤◌, ◌+◌, ◌++◌, length, drop};
-ghost use Rattle.byte_parts.specs.Parts.{part, ChangesWithin};
+ghost use Rattle.byte_parts.specs.Parts.{part, written, ChangesWithin};
 
 /// Writes these bytes over those of the row from index `at` on. The row has to have so many there.
 #[tactic(auto, using(crate::proofs::PartLemmas::writes))]
@@ -8,6 +8,7 @@ pub fn write_part(store: &mut [u8], at: usize, bytes: &[u8])
     requires { at + length bytes.now ≤ length store.old }
     ensures changes { ChangesWithin at (length bytes.now) store.old store.new }
     ensures there { part at (length bytes.now) store.new ≡ bytes.now }
+    ensures value { store.new ≡ written at bytes.now store.old }
 {
     store[at..at + bytes.len()].copy_from_slice(bytes);
 }

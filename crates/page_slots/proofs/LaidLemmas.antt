@@ -1,5 +1,5 @@
 -- Pages that are laid line by line.
-use Rattle.std.proofs.Common.{◌≡◌, ℕ, ◌+◌, ◌<◌, ◌≤◌, true, false, ap, ◌∙◌, sym, subst, arith, List, [], length, take, get_or, Option, Some, None, inl, inr}
+use Rattle.std.proofs.Common.{◌≡◌, ℕ, suc, refl, add-one, ◌+◌, ◌*◌, ◌<◌, ◌≤◌, true, false, ap, ◌∙◌, sym, subst, arith, List, [], length, take, replicate, get_or, Option, Some, None, inl, inr}
 use Rattle.std.proofs.Math.Bool.{not}
 use Rattle.std.proofs.lemmas.Bool.{cases_eq}
 use Rattle.std.proofs.lemmas.Bool.Decides.{nat_tests}
@@ -13,8 +13,8 @@ use Rattle.line_codec.proofs.LayoutLemmas.{is_exception-fits}
 use Rattle.page_slots.specs.declared.form.Form.{Form}
 use Rattle.page_slots.specs.Forms.{packed_form, room}
 use Rattle.page_slots.specs.Lines.{meta, chunk_of, content_at, HasLine, HasLines}
-use Rattle.page_slots.specs.Puts.{Misses, PutsLine}
-use Rattle.page_slots.specs.Laid.{IsPackedSize, next_chunk, LaidUpTo, IsLaid}
+use Rattle.page_slots.specs.Puts.{Misses, PutsLine, in_slot, in_chunk}
+use Rattle.page_slots.specs.Laid.{IsPackedSize, next_chunk, laid, LaidUpTo, IsLaid}
 use Rattle.page_slots.proofs.FormLemmas.{apart_of}
 use Rattle.page_slots.proofs.LineLemmas.{mark_le, has_content}
 use Rattle.page_slots.proofs.PutLemmas.{chunk_of_byte}
@@ -49,8 +49,10 @@ exceptions_more codec t n lines within unfit =
     omega (arith, more)
 
 -- no line is laid yet
-pub laid_none : (codec : Codec) (form : Form) (lines : List (List ℕ)) (bytes : List ℕ) → LaidUpTo codec form lines 0 bytes
-laid_none codec form lines bytes = record {
+pub laid_none : (codec : Codec) (form : Form) (lines : List (List ℕ)) (bytes : List ℕ) → bytes ≡ replicate (64 * form.chunks) 0 → LaidUpTo codec form lines 0 bytes
+unfolding laid
+laid_none codec form lines bytes zeros = record {
+  is = zeros;
   has = λ i l. absurd (omega arith);
   in_order = λ i l. absurd (omega arith);
   used = λ i l. absurd (omega arith);
@@ -68,12 +70,14 @@ laid_more : (codec : Codec) (form : Form) (lines : List (List ℕ)) (n : ℕ) (t
     → ((b : ℕ) → (128 ≤ b → chunk_of b < next_chunk codec form.large lines n) → Misses taken b)
     → next_chunk codec form.large lines n ≤ next_chunk codec form.large lines (n + 1)
     → (128 ≤ meta new n → (chunk_of (meta new n) ≡ next_chunk codec form.large lines n) × (chunk_of (meta new n) < next_chunk codec form.large lines (n + 1)))
+    → new ≡ laid codec form lines (n + 1)
     → LaidUpTo codec form lines (n + 1) new
-laid_more codec form lines n taken old new n_in laid puts misses grows own =
+laid_more codec form lines n taken old new n_in laid puts misses grows own is =
     let stays : (i : ℕ) → i < n → meta new i ≡ meta old i = λ (i : ℕ) (l : i < n). puts.bytes_stay i (omega arith) (omega arith) in
     let below : (i : ℕ) → i < n → 128 ≤ meta new i → chunk_of (meta new i) < next_chunk codec form.large lines n =
     λ (i : ℕ) (l : i < n) (h : 128 ≤ meta new i). rw (stays i l) (laid.used i l (rw (stays i l) at h)) in
     record {
+      is = is;
       has = λ i l. elim (cases_eq i n) [
         | inl e ↦ subst (λ (k : ℕ). HasLine codec form new k (get_or lines k [])) (sym e) puts.here
         | inr ne ↦ puts.lines_stay i (get_or lines i []) (omega arith) ne
@@ -120,21 +124,38 @@ pub next_below : (codec : Codec) (form : Form) (lines : List (List ℕ)) (n : �
 next_below codec form lines n n_in count flat unfit enough =
     omega (arith, next_more codec form lines n n_in count flat unfit, exceptions_le (n + 1) form.large (stored_sizes codec lines))
 
+laid-fits : (codec : Codec) (form : Form) (lines : List (List ℕ)) (n : ℕ) → fits codec (room form n) (get_or lines n []) ≡ true
+    → laid codec form lines (n + 1) ≡ in_slot codec form n (get_or lines n []) (laid codec form lines n)
+laid-fits codec form lines n fit =
+    let next : laid codec form lines (suc n) ≡ in_slot codec form n (get_or lines n []) (laid codec form lines n) = unfold laid in rw fit refl in
+    subst (λ (k : ℕ). laid codec form lines k ≡ in_slot codec form n (get_or lines n []) (laid codec form lines n)) (sym (add-one n)) next
+
+laid-unfit : (codec : Codec) (form : Form) (lines : List (List ℕ)) (n : ℕ) → fits codec (room form n) (get_or lines n []) ≡ false
+    → laid codec form lines (n + 1) ≡ in_chunk n (get_or lines n []) (next_chunk codec form.large lines n) (laid codec form lines n)
+laid-unfit codec form lines n unfit =
+    let next : laid codec form lines (suc n) ≡ in_chunk n (get_or lines n []) (next_chunk codec form.large lines n) (laid codec form lines n) = unfold laid in rw unfit refl in
+    subst (λ (k : ℕ). laid codec form lines k ≡ in_chunk n (get_or lines n []) (next_chunk codec form.large lines n) (laid codec form lines n)) (sym (add-one n)) next
+
 -- a line that is put into its slot
 pub laid_slot : (codec : Codec) (form : Form) (lines : List (List ℕ)) (n : ℕ) (old new : List ℕ) → n < 64 → length lines ≡ 64 → form.small ≡ form.large
-    → fits codec (room form n) (get_or lines n []) ≡ true → LaidUpTo codec form lines n old → PutsLine codec form n (get_or lines n []) None old new → LaidUpTo codec form lines (n + 1) new
-laid_slot codec form lines n old new n_in count flat fit laid puts =
+    → fits codec (room form n) (get_or lines n []) ≡ true → LaidUpTo codec form lines n old → PutsLine codec form n (get_or lines n []) None old new
+    → new ≡ in_slot codec form n (get_or lines n []) old → LaidUpTo codec form lines (n + 1) new
+laid_slot codec form lines n old new n_in count flat fit laid puts is =
     let same = next_same codec form lines n n_in count flat fit in
     laid_more codec form lines n None old new n_in laid puts (λ b h. tt) (omega arith) (λ h. absurd (omega (arith, puts.byte, mark_le (get_or lines n []))))
+    (is ∙ ap (in_slot codec form n (get_or lines n [])) laid.is ∙ sym (laid-fits codec form lines n fit))
 
 -- a line that is put into the next chunk
 pub laid_chunk : (codec : Codec) (form : Form) (lines : List (List ℕ)) (n number : ℕ) (old new : List ℕ) → n < 64 → length lines ≡ 64 → form.small ≡ form.large
     → number ≡ next_chunk codec form.large lines n → number < 64 → fits codec (room form n) (get_or lines n []) ≡ false
-    → LaidUpTo codec form lines n old → PutsLine codec form n (get_or lines n []) (Some number) old new → LaidUpTo codec form lines (n + 1) new
-laid_chunk codec form lines n number old new n_in count flat is_next few unfit laid puts =
+    → LaidUpTo codec form lines n old → PutsLine codec form n (get_or lines n []) (Some number) old new
+    → new ≡ in_chunk n (get_or lines n []) number old → LaidUpTo codec form lines (n + 1) new
+laid_chunk codec form lines n number old new n_in count flat is_next few unfit laid puts is =
     let more = next_more codec form lines n n_in count flat unfit in
     let name : chunk_of (meta new n) ≡ number = ap chunk_of puts.byte ∙ chunk_of_byte (get_or lines n []) number few in
     laid_more codec form lines n (Some number) old new n_in laid puts (λ b h high same. absurd (omega (arith, h high))) (omega arith) (λ h. (omega arith, omega arith))
+    (is ∙ ap (λ (k : ℕ). in_chunk n (get_or lines n []) k old) is_next ∙ ap (in_chunk n (get_or lines n []) (next_chunk codec form.large lines n)) laid.is
+    ∙ sym (laid-unfit codec form lines n unfit))
 
 -- a page whose lines are laid has them
 laid_all : (codec : Codec) (form : Form) (lines : List (List ℕ)) (bytes : List ℕ) → LaidUpTo codec form lines 64 bytes → HasLines codec form bytes (λ i. get_or lines i [])
@@ -157,4 +178,5 @@ laid_by codec order target lines size bytes is_target is_size same slots_in whol
       };
       content = sym (tabulate-by_index [] (content_at form bytes) 64 lines whole (λ i i_in. sym (has_content codec form bytes i (get_or lines i []) (laid.has i i_in))));
       in_order = laid.in_order;
+      bytes_are = laid.is;
     }

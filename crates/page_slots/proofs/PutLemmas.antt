@@ -11,7 +11,7 @@ use Rattle.byte_parts.proofs.PartLemmas.{part_stays}
 use Rattle.page_slots.specs.declared.form.Form.{Form}
 use Rattle.page_slots.specs.Forms.{IsForm, room, slot_start}
 use Rattle.page_slots.specs.Lines.{meta, chunk_of, chunk, slot, mark, IsException, Stands, HasLine, HasLines, HasOthers}
-use Rattle.page_slots.specs.Puts.{IsTaken, IsLowestFree, HasNoPlace, GoesToPlace, Misses, PutsLine, with_line}
+use Rattle.page_slots.specs.Puts.{IsTaken, IsLowestFree, HasNoPlace, GoesToPlace, Misses, PutsLine, with_line, in_slot, in_chunk}
 use Rattle.page_slots.proofs.FormLemmas.{Apart, apart_of, slot_low, slot_within, slots_apart}
 use Rattle.page_slots.proofs.LineLemmas.{mark_le}
 
@@ -190,35 +190,31 @@ done_lowest codec form line number from old mid new lines line_in e lowest has p
     puts_lines codec form line from (Some number) mid new lines line_in (subst (λ (b : List ℕ). HasOthers codec form b line lines) (sym e) has)
     (λ j j_in ne. lowest.free j j_in) puts
 
-pub right_slot : (codec : Codec) (form : Form) (line : ℕ) (from old new : List ℕ) → fits codec (room form line) from ≡ true → PutsLine codec form line from None old new → GoesToPlace codec form line from old new
-right_slot codec form line from old new fit puts = record {
-  in_slot = λ e. omega (arith, puts.byte, mark_le from);
+pub right_slot : (codec : Codec) (form : Form) (line : ℕ) (from old new : List ℕ) → fits codec (room form line) from ≡ true → new ≡ in_slot codec form line from old → GoesToPlace codec form line from old new
+right_slot codec form line from old new fit is = record {
+  where_it_fits = λ e. is;
   in_its_chunk = λ e. absurd (true≢false (sym fit ∙ e));
   in_lowest = λ e. absurd (true≢false (sym fit ∙ e));
-  others = puts.bytes_stay;
 }
 
 pub right_chunk : (codec : Codec) (form : Form) (line number : ℕ) (from old mid new : List ℕ) → fits codec (room form line) from ≡ false → mid ≡ old → 128 ≤ meta mid line → number ≡ chunk_of (meta mid line)
-    → PutsLine codec form line from (Some number) mid new → GoesToPlace codec form line from old new
-right_chunk codec form line number from old mid new unfit e high is puts =
+    → new ≡ in_chunk line from number mid → GoesToPlace codec form line from old new
+right_chunk codec form line number from old mid new unfit e high named is =
     let byte : meta mid line ≡ meta old line = ap (λ (b : List ℕ). meta b line) e in
     record {
-      in_slot = λ q. absurd (true≢false (sym q ∙ unfit));
-      in_its_chunk = λ q h. omega (arith, puts.byte, is, ap chunk_of byte);
+      where_it_fits = λ q. absurd (true≢false (sym q ∙ unfit));
+      in_its_chunk = λ q h. is ∙ ap (λ (k : ℕ). in_chunk line from k mid) (named ∙ ap chunk_of byte) ∙ ap (in_chunk line from (chunk_of (meta old line))) e;
       in_lowest = λ q l. absurd (omega (arith, byte));
-      others = λ i i_in ne. puts.bytes_stay i i_in ne ∙ ap (λ (b : List ℕ). meta b i) e;
     }
 
-pub right_lowest : (codec : Codec) (form : Form) (line number : ℕ) (from old mid new : List ℕ) → fits codec (room form line) from ≡ false → form.chunks ≤ 32 → mid ≡ old → meta mid line < 128 → IsLowestFree form mid number
-    → PutsLine codec form line from (Some number) mid new → GoesToPlace codec form line from old new
-right_lowest codec form line number from old mid new unfit few e low lowest puts =
+pub right_lowest : (codec : Codec) (form : Form) (line number : ℕ) (from old mid new : List ℕ) → fits codec (room form line) from ≡ false → mid ≡ old → meta mid line < 128 → IsLowestFree form mid number
+    → new ≡ in_chunk line from number mid → GoesToPlace codec form line from old new
+right_lowest codec form line number from old mid new unfit e low lowest is =
     let byte : meta mid line ≡ meta old line = ap (λ (b : List ℕ). meta b line) e in
-    let name : chunk_of (meta new line) ≡ number = ap chunk_of puts.byte ∙ chunk_of_byte from number (omega (arith, lowest.below)) in
     record {
-      in_slot = λ q. absurd (true≢false (sym q ∙ unfit));
+      where_it_fits = λ q. absurd (true≢false (sym q ∙ unfit));
       in_its_chunk = λ q h. absurd (omega (arith, byte));
-      in_lowest = λ q l. rw name (subst (λ (b : List ℕ). IsLowestFree form b number) e lowest);
-      others = λ i i_in ne. puts.bytes_stay i i_in ne ∙ ap (λ (b : List ℕ). meta b i) e;
+      in_lowest = λ q l. (number, (subst (λ (b : List ℕ). IsLowestFree form b number) e lowest, is ∙ ap (in_chunk line from number) e));
     }
 
 pub ruleset rights = (done_slot, done_chunk, done_lowest, right_slot, right_chunk, right_lowest)

@@ -1,11 +1,12 @@
 -- A line that is put into a page: where it goes, and when it has no place.
-use Rattle.std.specs.Prelude.{ℕ, ◌≡◌, ◌≢◌, ◌+◌, ◌<◌, ◌≤◌, true, false, List, Option, Some, None, length, ◌==◌, if◌then◌else◌}
+use Rattle.std.specs.Prelude.{ℕ, ◌≡◌, ◌≢◌, ◌+◌, ◌*◌, ◌<◌, ◌≤◌, true, false, List, Option, Some, None, length, slice_set, ◌==◌, if◌then◌else◌}
 use Rattle.hier_types.specs.declared.settings.Codec.{Codec}
-use Rattle.line_codec.specs.Slots.{fits}
+use Rattle.byte_parts.specs.Parts.{written}
+use Rattle.line_codec.specs.Slots.{encoding, fits, padded}
 use Rattle.page_slots.specs.declared.desc.Shape.{Shape}
-use Rattle.page_slots.specs.declared.desc.Shape.TheVariants.{Packed}
+use Rattle.page_slots.specs.declared.desc.Shape.TheVariants.{Zero, Raw, Packed}
 use Rattle.page_slots.specs.declared.form.Form.{Form}
-use Rattle.page_slots.specs.Forms.{packed_form, room}
+use Rattle.page_slots.specs.Forms.{packed_form, room, slot_start}
 use Rattle.page_slots.specs.Lines.{meta, chunk_of, mark, HasLine}
 
 -- no line has the chunk
@@ -36,22 +37,31 @@ pub record HasNoPlace (codec : Codec) (form : Form) (bytes : List ℕ) (line : �
   pub has_none : meta bytes line < 128
   pub full : AllTaken form bytes form.chunks
 
--- the line went to its slot, or to the chunk that it had, or to the lowest free one, and no other line's metadata changed
+-- the page with a line in its slot, which has the line's encoding and zeros behind it
+abbrev pub in_slot : Codec → Form → ℕ → List ℕ → List ℕ → List ℕ
+in_slot codec form line from old = slice_set (written (slot_start form line) (padded (room form line) (encoding codec from)) old) line (mark from)
+
+-- the page with a line in a chunk
+abbrev pub in_chunk : ℕ → List ℕ → ℕ → List ℕ → List ℕ
+in_chunk line from number old = slice_set (written (64 * number) from old) line (128 + mark from + number)
+
+-- the line went to its slot, or to the chunk that it had, or to the lowest free one, and nothing else changed
 pub record GoesToPlace (codec : Codec) (form : Form) (line : ℕ) (from old new : List ℕ) : Type 0 where
-  pub in_slot : fits codec (room form line) from ≡ true → meta new line < 128
-  pub in_its_chunk : fits codec (room form line) from ≡ false → 128 ≤ meta old line → meta new line ≡ 128 + mark from + chunk_of (meta old line)
-  pub in_lowest : fits codec (room form line) from ≡ false → meta old line < 128 → IsLowestFree form old (chunk_of (meta new line))
-  pub others : (i : ℕ) → i < 64 → i ≢ line → meta new i ≡ meta old i
+  pub where_it_fits : fits codec (room form line) from ≡ true → new ≡ in_slot codec form line from old
+  pub in_its_chunk : fits codec (room form line) from ≡ false → 128 ≤ meta old line → new ≡ in_chunk line from (chunk_of (meta old line)) old
+  pub in_lowest : fits codec (room form line) from ≡ false → meta old line < 128 → (number : ℕ) × (IsLowestFree form old number × (new ≡ in_chunk line from number old))
 
 -- there is no place for the line: in a page whose lines stand one after another there always is one
 abbrev pub Overflows : Codec → Shape → List ℕ → ℕ → List ℕ → Type 0
 Overflows codec (Packed order target) bytes line from = HasNoPlace codec (packed_form order target) bytes line from
 Overflows codec shape bytes line from = ⊥
 
--- the line went where it belongs: in a page whose lines stand one after another each has its one place
+-- the line went where it belongs, and nothing else changed: in a page whose lines stand one after another each has its
+-- one place, and a page of zeros has none
 abbrev pub GoesRight : Codec → Shape → ℕ → List ℕ → List ℕ → List ℕ → Type 0
 GoesRight codec (Packed order target) line from old new = GoesToPlace codec (packed_form order target) line from old new
-GoesRight codec shape line from old new = Unit {0}
+GoesRight codec Raw line from old new = new ≡ written (64 * line) from old
+GoesRight codec Zero line from old new = ⊥
 
 -- the lines with another one in place of line `line`
 abbrev pub with_line : (ℕ → List ℕ) → ℕ → List ℕ → ℕ → List ℕ

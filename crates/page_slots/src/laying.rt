@@ -4,7 +4,7 @@ ghost use Rattle.hier_types.specs.declared.settings.Codec.{Codec as AnyCodec};
 ghost use Rattle.line_codec.specs.Layout.{IsTarget, stored_sizes, chunks_of};
 ghost use Rattle.page_slots.specs.Descs.{content_of};
 ghost use Rattle.page_slots.specs.Forms.{IsForm, packed_form};
-ghost use Rattle.page_slots.specs.Laid.{IsPackedSize, next_chunk, LaidUpTo, IsLaid, PackedPagesHaveRoom};
+ghost use Rattle.page_slots.specs.Laid.{IsPackedSize, next_chunk, LaidUpTo, IsLaid, HasRoomFor, bytes_for, PackedPagesHaveRoom};
 ghost use Rattle.page_slots.specs.Sound.{IsSound};
 
 use crate::desc::Shape;
@@ -44,6 +44,7 @@ fn lay_lines(codec: Codec, form: Form, lines: &[Line; 64], bytes: &mut [u8])
     requires room { chunks_of (stored_sizes codec lines.now) form.large ≤ form.chunks }
     ensures { LaidUpTo codec form lines.now 64 bytes.new }
 {
+    bytes.fill(0);
     let mut next = form.large + 1;
     for line in 0..64u8 {
         next = lay_line(codec, form, lines, bytes, line, next);
@@ -64,8 +65,9 @@ fn form_in(target: u8, size: usize) -> Form
 }
 
 /// Writes a packed page over whatever stands in the block: each line that fits it in its slot of `target` bytes, the
-/// others in line order in the chunks behind the slots. The block has to have the length of one of order 0 to 2, and
-/// chunks enough for the metadata, the slots and these others. Each line is encoded once.
+/// others in line order in the chunks behind the slots, and zeros where no line stands. The block has to have the
+/// length of one of order 0 to 2, and chunks enough for the metadata, the slots and these others. Each line is encoded
+/// once.
 pub fn lay(codec: Codec, target: u8, lines: &[Line; 64], bytes: &mut [u8])
     requires is_target { IsTarget target }
     requires is_size { (order : ℕ) × IsPackedSize order (length bytes.old) }
@@ -82,6 +84,7 @@ pub fn lay_raw(lines: &[Line; 64], bytes: &mut [u8])
     requires { length bytes.old ≡ 4096 }
     ensures sound { (codec : AnyCodec) → IsSound codec Shape.Raw bytes.new }
     ensures content { content_of Shape.Raw bytes.new ≡ lines.now }
+    ensures value { (codec : AnyCodec) → bytes.new ≡ bytes_for codec Shape.Raw lines.now }
 {
     for line in 0..64u8 {
         write_chunk(bytes, line, &lines[line as usize]);
@@ -92,3 +95,19 @@ pub fn lay_raw(lines: &[Line; 64], bytes: &mut [u8])
 pub fn packed_pages_have_room()
     ensures { PackedPagesHaveRoom }
 {}
+
+impl Shape {
+    /// Writes a page of this shape, on the terms of [`lay`] and [`lay_raw`], over whatever stands in the block.
+    pub fn lay(self, codec: Codec, lines: &[Line; 64], bytes: &mut [u8])
+        requires { HasRoomFor codec self lines.now (length bytes.old) }
+        ensures sound { IsSound codec self bytes.new }
+        ensures content { content_of self bytes.new ≡ lines.now }
+        ensures value { bytes.new ≡ bytes_for codec self lines.now }
+    {
+        match self {
+            Shape::Zero => {}
+            Shape::Raw => lay_raw(lines, bytes),
+            Shape::Packed { target, .. } => lay(codec, target, lines, bytes),
+        }
+    }
+}

@@ -1,12 +1,12 @@
 // Lines that are put into a page.
 ghost use Rattle.std.specs.Prelude.{◌≡◌, ◌≢◌, ◌↔◌, ◌<◌, ◌≤◌, ◌+◌, ◌*◌, ℕ, List, Some, None, IsTrue, IsFalse, MatchOption, false, length, slice_set};
 ghost use Rattle.hier_types.specs.declared.settings.Codec.{Codec as AnyCodec};
-ghost use Rattle.line_codec.specs.Slots.{encoding, fits, Begins};
-ghost use Rattle.byte_parts.specs.Parts.{part, ChangesWithin};
+ghost use Rattle.line_codec.specs.Slots.{encoding, fits, padded, Begins};
+ghost use Rattle.byte_parts.specs.Parts.{part, written, ChangesWithin};
 ghost use Rattle.page_slots.specs.Descs.{shape_of, content_of};
 ghost use Rattle.page_slots.specs.Forms.{IsForm, room};
 ghost use Rattle.page_slots.specs.Lines.{meta, chunk_of, chunk, mark, HasLines, HasOthers};
-ghost use Rattle.page_slots.specs.Puts.{IsFree, IsTaken, AllTaken, IsLowestFree, HasNoPlace, GoesToPlace, Overflows, GoesRight, PutsLine, with_line};
+ghost use Rattle.page_slots.specs.Puts.{IsFree, IsTaken, AllTaken, IsLowestFree, HasNoPlace, GoesToPlace, Overflows, GoesRight, PutsLine, with_line, in_slot, in_chunk};
 ghost use Rattle.page_slots.specs.Sound.{IsSound};
 
 use crate::desc::{Desc, Shape};
@@ -35,6 +35,7 @@ pub(crate) fn write_chunk(bytes: &mut [u8], number: u8, from: &Line)
     requires { 64 * number + 64 ≤ length bytes.old }
     ensures changes { ChangesWithin (64 * number) 64 bytes.old bytes.new }
     ensures there { chunk bytes.new number ≡ from.now }
+    ensures value { bytes.new ≡ written (64 * number) from.now bytes.old }
 {
     write_part(bytes, 64 * number as usize, from);
 }
@@ -45,6 +46,7 @@ fn write_slot(codec: Codec, bytes: &mut [u8], start: usize, room: usize, from: &
     ensures fits { result ≡ fits codec room from.now }
     ensures changes { ChangesWithin start room bytes.old bytes.new }
     ensures begins { IsTrue result → Begins (encoding codec from.now) (part start room bytes.new) }
+    ensures value { IsTrue result → bytes.new ≡ written start (padded room (encoding codec from.now)) bytes.old }
     ensures unchanged { IsFalse result → bytes.new ≡ bytes.old }
 {
     to_slot(codec, from, &mut bytes[start..start + room])
@@ -56,6 +58,7 @@ pub(crate) fn put_slot(codec: Codec, form: Form, bytes: &mut [u8], line: u8, fro
     requires line_in { line < 64 }
     ensures fits { result ≡ fits codec (room form line) from.now }
     ensures puts { IsTrue result → PutsLine codec form line from.now None bytes.old bytes.new }
+    ensures value { IsTrue result → bytes.new ≡ in_slot codec form line from.now bytes.old }
     ensures unchanged { IsFalse result → bytes.new ≡ bytes.old }
 {
     let start = form.slot_start(line);
@@ -73,8 +76,9 @@ pub(crate) fn put_chunk(form: Form, bytes: &mut [u8], line: u8, number: u8, from
     requires line_in { line < 64 }
     requires above { form.large < number }
     requires below { number < form.chunks }
-    ensures { (codec : AnyCodec) → fits codec (room form line) from.now ≡ false
+    ensures puts { (codec : AnyCodec) → fits codec (room form line) from.now ≡ false
         → PutsLine codec form line from.now (Some number) bytes.old bytes.new }
+    ensures value { bytes.new ≡ in_chunk line from.now number bytes.old }
 {
     write_chunk(bytes, number, from);
     bytes[line as usize] = 128 + mark(from) + number;
@@ -138,7 +142,7 @@ fn put_packed(codec: Codec, form: Form, bytes: &mut [u8], line: u8, from: &Line)
 /// or to the lowest free one above the slots. Overflow, with nothing changed, exactly where there is none. `bytes` are
 /// those of the page's block. It looks at no other line, but for the metadata where a free chunk is sought.
 pub fn put(codec: Codec, desc: &Desc, bytes: &mut [u8], line: u8, from: &Line) -> PutResult
-    requires not_zero { desc.now ≢ Desc.Zero }
+    requires not_zero { shape_of desc.now ≢ Shape.Zero }
     requires sound { IsSound codec (shape_of desc.now) bytes.old }
     requires line_in { line < 64 }
     ensures sound { IsSound codec (shape_of desc.now) bytes.new }
@@ -148,15 +152,32 @@ pub fn put(codec: Codec, desc: &Desc, bytes: &mut [u8], line: u8, from: &Line) -
     ensures overflow { result ≡ PutResult.Overflow ↔ Overflows codec (shape_of desc.now) bytes.old line from.now }
     ensures unchanged { result ≡ PutResult.Overflow → bytes.new ≡ bytes.old }
 {
-    match desc.shape() {
-        Shape::Zero => unreachable!(),
-        Shape::Raw => {
-            write_chunk(bytes, line, from);
-            PutResult::Done
-        }
-        Shape::Packed { order, target } => {
-            let form = packed_form(order, target);
-            put_packed(codec, form, bytes, line, from)
+    desc.shape().put(codec, bytes, line, from)
+}
+
+impl Shape {
+    /// Puts a line into a page of this shape, on the terms of [`put`].
+    pub fn put(self, codec: Codec, bytes: &mut [u8], line: u8, from: &Line) -> PutResult
+        requires not_zero { self ≢ Shape.Zero }
+        requires sound { IsSound codec self bytes.old }
+        requires line_in { line < 64 }
+        ensures sound { IsSound codec self bytes.new }
+        ensures content { result ≡ PutResult.Done
+            → content_of self bytes.new ≡ slice_set (content_of self bytes.old) line from.now }
+        ensures right { result ≡ PutResult.Done → GoesRight codec self line from.now bytes.old bytes.new }
+        ensures overflow { result ≡ PutResult.Overflow ↔ Overflows codec self bytes.old line from.now }
+        ensures unchanged { result ≡ PutResult.Overflow → bytes.new ≡ bytes.old }
+    {
+        match self {
+            Shape::Zero => unreachable!(),
+            Shape::Raw => {
+                write_chunk(bytes, line, from);
+                PutResult::Done
+            }
+            Shape::Packed { order, target } => {
+                let form = packed_form(order, target);
+                put_packed(codec, form, bytes, line, from)
+            }
         }
     }
 }

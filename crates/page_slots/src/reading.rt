@@ -48,21 +48,6 @@ fn read_packed(form: Form, bytes: &[u8], line: u8, into: &mut Line)
     }
 }
 
-fn read_line(shape: Shape, bytes: &[u8], line: u8, into: &mut Line)
-    requires line_in { line < 64 }
-    requires sound { (codec : AnyCodec) × IsSound codec shape bytes.now }
-    ensures { into.new ≡ line_of shape bytes.now line }
-{
-    match shape {
-        Shape::Zero => into.fill(0),
-        Shape::Raw => read_chunk(bytes, line, into),
-        Shape::Packed { order, target } => {
-            let form = packed_form(order, target);
-            read_packed(form, bytes, line, into);
-        }
-    }
-}
-
 /// Reads one line of a page. `bytes` are those of the page's block, and none where the page is zero. The page has to be
 /// sound under some codec: which one, the slot tells. It reads the line's metadata, and its slot or its chunk.
 pub fn get(desc: &Desc, bytes: &[u8], line: u8, into: &mut Line)
@@ -70,7 +55,7 @@ pub fn get(desc: &Desc, bytes: &[u8], line: u8, into: &mut Line)
     requires sound { (codec : AnyCodec) × IsSound codec (shape_of desc.now) bytes.now }
     ensures { slice_get (content_of (shape_of desc.now) bytes.now) line ≡ Some into.new }
 {
-    read_line(desc.shape(), bytes, line, into);
+    desc.shape().line(bytes, line, into);
 }
 
 /// Reads all lines of a page, on the terms of [`get`].
@@ -82,6 +67,22 @@ pub fn gather(desc: &Desc, bytes: &[u8], into: &mut [Line; 64])
 }
 
 impl Shape {
+    /// Reads one line of a page of this shape, on the terms of [`get`].
+    pub fn line(self, bytes: &[u8], line: u8, into: &mut Line)
+        requires line_in { line < 64 }
+        requires sound { (codec : AnyCodec) × IsSound codec self bytes.now }
+        ensures { into.new ≡ line_of self bytes.now line }
+    {
+        match self {
+            Shape::Zero => into.fill(0),
+            Shape::Raw => read_chunk(bytes, line, into),
+            Shape::Packed { order, target } => {
+                let form = packed_form(order, target);
+                read_packed(form, bytes, line, into);
+            }
+        }
+    }
+
     /// Reads all lines of a page of this shape, whose block may be another one by now.
     pub fn gather(self, bytes: &[u8], into: &mut [Line; 64])
         requires { (codec : AnyCodec) × IsSound codec self bytes.now }
@@ -89,7 +90,7 @@ impl Shape {
     {
         for line in 0..64u8 {
             let mut found = [0; 64];
-            read_line(self, bytes, line, &mut found);
+            self.line(bytes, line, &mut found);
             into[line as usize] = found;
         }
     }

@@ -10,10 +10,10 @@ loop-line-preserved c =
     let into = c.loop-line.into in
     let line = c.loop-line.line in
     record {
-      whole = length-set into line c.read_line.new.into ∙ c.loop-line.invariant.whole;
+      whole = length-set into line c.line.new.into ∙ c.loop-line.invariant.whole;
       found = λ i lt. elim (cases_eq i line) [
-        | inl e ↦ rw e (get_or-set_same into line c.read_line.new.into [] (omega (arith, c.loop-line.invariant.whole)) ∙ c.read_line.ensures)
-        | inr ne ↦ get_or-set_other into line i c.read_line.new.into [] ne ∙ c.loop-line.invariant.found i (omega arith)
+        | inl e ↦ rw e (get_or-set_same into line c.line.new.into [] (omega (arith, c.loop-line.invariant.whole)) ∙ c.line.ensures)
+        | inr ne ↦ get_or-set_other into line i c.line.new.into [] ne ∙ c.loop-line.invariant.found i (omega arith)
       ];
     }
 

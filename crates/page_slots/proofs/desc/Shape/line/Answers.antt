@@ -1,6 +1,6 @@
 use Rattle.std.proofs.Common.{rules, ◌≡◌, ◌∙◌, length, replicate, ap}
 use Rattle.hier_types.specs.Lines.{zero_line}
-use Rattle.page_slots.proofs.reading.read_line.Goals as goal
+use Rattle.page_slots.proofs.desc.Shape.line.Goals as goal
 
 pub returns-in-Zero : goal.returns-in-Zero
 returns-in-Zero c =
