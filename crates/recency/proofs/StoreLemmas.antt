@@ -7,7 +7,7 @@ use Rattle.std.proofs.lemmas.List.{length-map}
 use Rattle.recency.specs.declared.entry.Entry.{Entry}
 use Rattle.recency.specs.declared.entry.Tag.{Tag}
 use Rattle.recency.specs.Uses.{Used, has, removed, last_of, but_last, more_recent, IsDistinct}
-use Rattle.recency.specs.Kept.{entry_of, without, touched, dirty_entry, cleaned, clean_last, clean_in, put_in, dirty_victim, if_dirty, overwritten, poked}
+use Rattle.recency.specs.Kept.{entry_of, without, touched, dirty_entry, cleaned, clean_last, clean_in, put_in, dirty_victim, if_dirty, overwritten, poked, renewed}
 use Rattle.recency.specs.Slots.{tag_at, entry_at, entries_of, IsStored, IsSlotOf}
 use Rattle.recency.proofs.UseLemmas.{by_eq, has_front, has_past, not_both, has_apart, has_below, has-removed, has-removed_other, distinct-removed, below-removed}
 use Rattle.recency.proofs.SlotLemmas.{entries_same, slot_entry, slot_none, none_slot, last_of-map, but_last-map, last_has, last_none_empty, removed_last}
@@ -92,6 +92,39 @@ first_changed tags bytes (y ∷ ss) s b d is lt lt2 =
     (ap (λ z. z ∷ entries_of (set tags s t) (set bytes s b) ss) (ap (entry_at (set tags s t) (set bytes s b)) e ∙ entry_both tags bytes s t b lt lt2)
     ∙ ap (λ l. dirty_entry (tag_at tags s).line b ∷ l) (entries_same tags (set tags s t) bytes (set bytes s b) ss (λ x k. entry_both_other tags bytes s x t b (has_apart ss x s k out))))
 
+-- a slot after its bytes were changed
+entry_bytes : (tags : List Tag) (bytes : List (List ℕ)) (s : ℕ) (b : List ℕ) → s < length bytes → entry_at tags (set bytes s b) s ≡ record { line = (tag_at tags s).line; bytes = b; dirty = (tag_at tags s).dirty }
+entry_bytes tags bytes s b lt = ap (λ (c : List ℕ). record { line = (tag_at tags s).line; bytes = c; dirty = (tag_at tags s).dirty }) (get_or-set_same bytes s b [] lt)
+
+entry_bytes_other : (tags : List Tag) (bytes : List (List ℕ)) (s x : ℕ) (b : List ℕ) → x ≢ s → entry_at tags (set bytes s b) x ≡ entry_at tags bytes x
+entry_bytes_other tags bytes s x b ne = ap (λ (c : List ℕ). record { line = (tag_at tags x).line; bytes = c; dirty = (tag_at tags x).dirty }) (get_or-set_other bytes s x b [] ne)
+
+renewed_at : (tags : List Tag) (bytes : List (List ℕ)) (ss : List ℕ) (s line : ℕ) (b : List ℕ) → IsDistinct ss → has ss s ≡ true → s < length bytes → (tag_at tags s).line ≡ line
+    → ((x : ℕ) → has ss x ≡ true → (tag_at tags x).line ≡ line → x ≡ s)
+    → entries_of tags (set bytes s b) ss ≡ renewed (entries_of tags bytes ss) line b
+renewed_at tags bytes [] s line b d h lt at only = refl
+renewed_at tags bytes (y ∷ ss) s line b d h lt at only =
+    by_eq y s
+    (λ e.
+    let here : (tag_at tags y).line ≡ line = ap (λ x. (tag_at tags x).line) e ∙ at in
+    let out : has ss s ≡ false = ap (has ss) (sym e) ∙ d.0 in
+    let front : entry_at tags (set bytes s b) y ≡ record { line = (tag_at tags y).line; bytes = b; dirty = (tag_at tags y).dirty } =
+    ap (entry_at tags (set bytes s b)) e ∙ entry_bytes tags bytes s b lt ∙ sym (ap (λ x. record { line = (tag_at tags x).line; bytes = b; dirty = (tag_at tags x).dirty }) e) in
+    rw (eq-eqb (tag_at tags y).line line here)
+    (ap (λ z. z ∷ entries_of tags (set bytes s b) ss) front
+    ∙ ap (λ l. record { line = (tag_at tags y).line; bytes = b; dirty = (tag_at tags y).dirty } ∷ l) (entries_same tags tags bytes (set bytes s b) ss (λ x k. entry_bytes_other tags bytes s x b (has_apart ss x s k out)))))
+    (λ apart.
+    let other : (tag_at tags y).line ≢ line = λ k. apart (only y (has_front y ss y refl) k) in
+    rw (ne_eqb (tag_at tags y).line line other)
+    (ap (λ z. z ∷ entries_of tags (set bytes s b) ss) (entry_bytes_other tags bytes s y b apart)
+    ∙ ap (λ l. entry_at tags bytes y ∷ l) (renewed_at tags bytes ss s line b d.1 (sym (has_past y ss s apart) ∙ h) lt at (λ x k. only x (by_eq y x (λ q. has_front y ss x q) (λ ne. has_past y ss x ne ∙ k))))))
+
+renewed_none_in : (tags : List Tag) (bytes : List (List ℕ)) (ss : List ℕ) (line : ℕ) (b : List ℕ) → ((x : ℕ) → has ss x ≡ true → (tag_at tags x).line ≡ line → ⊥) → renewed (entries_of tags bytes ss) line b ≡ entries_of tags bytes ss
+renewed_none_in tags bytes [] line b none = refl
+renewed_none_in tags bytes (z ∷ ss) line b none =
+    rw (ne_eqb (tag_at tags z).line line (none z (has_front z ss z refl)))
+    (ap (λ l. entry_at tags bytes z ∷ l) (renewed_none_in tags bytes ss line b (λ x k. none x (by_eq z x (λ q. has_front z ss x q) (λ ne. has_past z ss x ne ∙ k)))))
+
 -- the slots in use after one was used
 has_used : (ss : List ℕ) (s x : ℕ) → has (s ∷ removed ss s) x ≡ true → (x ≢ s) → has ss x ≡ true
 has_used ss s x h ne = sym (has-removed_other ss s x (λ e. ne (sym e))) ∙ sym (has_past s (removed ss s) x (λ e. ne (sym e))) ∙ h
@@ -165,6 +198,12 @@ module _ {ways : ℕ} {order : Used} {tags : List Tag} {bytes : List (List ℕ)}
           let e : y ≡ s = cc in
           rw (eq-eqb (tag_at tags y).line (tag_at tags s).line (ap (λ x. (tag_at tags x).line) e))
           (ap (λ x. dirty_entry (tag_at tags s).line (set (get_or bytes x []) offset byte) ∷ entries_of tags bytes ss) (sym e))
+
+  pub renewed_slot : (s line : ℕ) (b : List ℕ) → has order.slots s ≡ true → (tag_at tags s).line ≡ line → entries_of tags (set bytes s b) order.slots ≡ renewed (entries_of tags bytes order.slots) line b
+  renewed_slot s line b h at = renewed_at tags bytes order.slots s line b stored.tagged.distinct h (bytes_within s h) at (only_slot s line h at)
+
+  pub none_renewed : (line : ℕ) (b : List ℕ) → IsSlotOf order.slots tags line None → entries_of tags bytes order.slots ≡ renewed (entries_of tags bytes order.slots) line b
+  none_renewed line b none = sym (renewed_none_in tags bytes order.slots line b none)
 
   full_test : ways ≤ length order.slots → nat_lt (length (entries_of tags bytes order.slots)) ways ≡ false
   full_test full = rw length-map (le-ltb (length order.slots) ways full)

@@ -70,6 +70,11 @@ abbrev pub overwritten : List Entry → ℕ → List ℕ → List Entry
 overwritten [] line bytes = []
 overwritten (e ∷ es) line bytes = if e.line == line then dirty_entry line bytes ∷ es else e ∷ overwritten es line bytes
 
+-- the copy of a line has other bytes, and its mark stays; where there is none, nothing changes
+abbrev pub renewed : List Entry → ℕ → List ℕ → List Entry
+renewed [] line bytes = []
+renewed (e ∷ es) line bytes = if e.line == line then record e { bytes = bytes } ∷ es else e ∷ renewed es line bytes
+
 -- the copy of a line has another byte, and is dirty from then on; where there is none, nothing changes
 abbrev pub poked : List Entry → ℕ → ℕ → ℕ → List Entry
 poked [] line offset byte = []

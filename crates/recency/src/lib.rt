@@ -14,6 +14,7 @@ mod storage;
 mod tests;
 
 pub use entry::{Entry, Tag};
+pub use line_set::LineSet;
 pub use line_sets::LineSets;
 pub use order::Order;
 pub use slots::{last_dirty_slot, slot_of, slot_to_fill};

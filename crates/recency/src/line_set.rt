@@ -1,7 +1,7 @@
 // A set of lines.
 ghost use Rattle.std.specs.Prelude.{◌≡◌, ◌<◌, [], true, false, None, length, is_some, slice_get, slice_index, IfOk, IfSome, MatchOption};
 ghost use Rattle.hier_types.specs.Settings.{IsWithin};
-ghost use Rattle.recency.specs.Kept.{clean_entry, entry_of, touched, put_in, dirty_victim, clean_last, last_dirty, clean_in, overwritten, poked, with_lines};
+ghost use Rattle.recency.specs.Kept.{clean_entry, entry_of, touched, put_in, dirty_victim, clean_last, last_dirty, clean_in, overwritten, poked, renewed, without, with_lines};
 
 use crate::entry::{Entry, Tag};
 use crate::order::Order;
@@ -13,7 +13,7 @@ use std::marker::Model;
 
 /// At most `ways` lines, in the order of their use. Each stands in a slot as long as it is kept.
 #[derive(Drop)]
-pub(crate) struct LineSet {
+pub struct LineSet {
     ways: u32,
     order: Order,
     tags: Vec<Tag>,
@@ -33,7 +33,7 @@ impl Model for LineSet {
 
 impl LineSet {
     /// No line, of 1 to 1,024.
-    pub(crate) fn new(alloc: Global, ways: u32) -> Result<LineSet, NoMemory>
+    pub fn new(alloc: Global, ways: u32) -> Result<LineSet, NoMemory>
         requires { IsWithin 1 1024 ways }
         ensures { IfOk result (λ set. set ≡ record { ways = ways; lines = [] }) }
     {
@@ -53,7 +53,7 @@ impl LineSet {
     }
 
     /// Whether the line is kept. It becomes the most recent.
-    pub(crate) fn touch(&mut self, line: u32) -> bool
+    pub fn touch(&mut self, line: u32) -> bool
         ensures found { result ≡ is_some (entry_of self.old.lines line) }
         ensures after { self.new ≡ with_lines self.old (touched self.old.lines line) }
     {
@@ -79,7 +79,7 @@ impl LineSet {
     }
 
     /// Copies the bytes of a line, and tells whether it is kept. The order of use stays.
-    pub(crate) fn copy_of(&self, line: u32, into: &mut Line) -> bool
+    pub fn copy_of(&self, line: u32, into: &mut Line) -> bool
         ensures { MatchOption (entry_of self.now.lines line) ((result ≡ false) × (into.new ≡ into.old)) (λ e. (result ≡ true) × (into.new ≡ e.bytes)) }
     {
         let Some(slot) = slot_of(&self.order, &self.tags, self.ways, line) else {
@@ -90,7 +90,7 @@ impl LineSet {
     }
 
     /// Puts a clean line in front that is not kept, in place of the least recent where the set is full.
-    pub(crate) fn put_in(&mut self, line: u32, bytes: &Line)
+    pub fn put_in(&mut self, line: u32, bytes: &Line)
         requires { entry_of self.old.lines line ≡ None }
         ensures { self.new ≡ with_lines self.old (put_in self.old (clean_entry line bytes.now)) }
     {
@@ -100,8 +100,28 @@ impl LineSet {
         self.order.use_slot(slot);
     }
 
+    /// Changes the bytes of a line, where it is kept. Its place in the order of use and its mark stay.
+    pub fn renew(&mut self, line: u32, copy: &Line)
+        ensures { self.new ≡ with_lines self.old (renewed self.old.lines line copy.now) }
+    {
+        let Some(slot) = slot_of(&self.order, &self.tags, self.ways, line) else {
+            return;
+        };
+        copy_in(&mut self.bytes, slot, copy);
+    }
+
+    /// The line leaves, where it is kept. The order of the others stays.
+    pub fn forget(&mut self, line: u32)
+        ensures { self.new ≡ with_lines self.old (without self.old.lines line) }
+    {
+        let Some(slot) = slot_of(&self.order, &self.tags, self.ways, line) else {
+            return;
+        };
+        self.order.drop_slot(slot);
+    }
+
     /// The line that is written below before another is put in: the least recent of a full set, if it is dirty.
-    pub(crate) fn dirty_victim(&self) -> Option<Entry>
+    pub fn dirty_victim(&self) -> Option<Entry>
         ensures { result ≡ dirty_victim self.now }
     {
         if self.order.len() < self.ways {
@@ -117,7 +137,7 @@ impl LineSet {
     }
 
     /// The least recent line is clean from now on.
-    pub(crate) fn clean_last(&mut self)
+    pub fn clean_last(&mut self)
         ensures { self.new ≡ with_lines self.old (clean_last self.old.lines) }
     {
         let Some(slot) = self.order.last() else {
@@ -127,7 +147,7 @@ impl LineSet {
     }
 
     /// The least recent dirty line.
-    pub(crate) fn last_dirty(&self) -> Option<Entry>
+    pub fn last_dirty(&self) -> Option<Entry>
         ensures { result ≡ last_dirty self.now.lines }
     {
         let Some(slot) = last_dirty_slot(&self.order, &self.tags) else {
@@ -137,7 +157,7 @@ impl LineSet {
     }
 
     /// The line is clean from now on, where it is kept.
-    pub(crate) fn clean(&mut self, line: u32)
+    pub fn clean(&mut self, line: u32)
         ensures { self.new ≡ with_lines self.old (clean_in self.old.lines line) }
     {
         let Some(slot) = slot_of(&self.order, &self.tags, self.ways, line) else {
@@ -147,7 +167,7 @@ impl LineSet {
     }
 
     /// A byte of the most recent line.
-    pub(crate) fn first_byte(&self, offset: u32) -> u8
+    pub fn first_byte(&self, offset: u32) -> u8
         requires some { 0 < length self.now.lines }
         requires inside { offset < 64 }
         ensures { IfSome (slice_get self.now.lines 0) (λ e. result ≡ slice_index e.bytes offset) }
@@ -157,7 +177,7 @@ impl LineSet {
     }
 
     /// Changes a byte of the most recent line, which is dirty from now on.
-    pub(crate) fn set_first_byte(&mut self, offset: u32, byte: u8)
+    pub fn set_first_byte(&mut self, offset: u32, byte: u8)
         requires some { 0 < length self.old.lines }
         requires inside { offset < 64 }
         ensures { IfSome (slice_get self.old.lines 0) (λ e. self.new ≡ with_lines self.old (poked self.old.lines e.line offset byte)) }
@@ -168,7 +188,7 @@ impl LineSet {
     }
 
     /// Copies the bytes of the most recent line.
-    pub(crate) fn copy_first(&self, into: &mut Line)
+    pub fn copy_first(&self, into: &mut Line)
         requires { 0 < length self.now.lines }
         ensures { IfSome (slice_get self.now.lines 0) (λ e. into.new ≡ e.bytes) }
     {
@@ -177,7 +197,7 @@ impl LineSet {
     }
 
     /// Changes the bytes of the most recent line, which is dirty from now on.
-    pub(crate) fn set_first(&mut self, from: &Line)
+    pub fn set_first(&mut self, from: &Line)
         requires { 0 < length self.old.lines }
         ensures { IfSome (slice_get self.old.lines 0) (λ e. self.new ≡ with_lines self.old (overwritten self.old.lines e.line from.now)) }
     {

@@ -1,7 +1,7 @@
 // The sets of a level.
 ghost use Rattle.std.specs.Prelude.{◌≡◌, ◌<◌, ◌%◌, ℕ, [], true, false, None, length, is_some, replicate, slice_get, slice_index, IfOk, IfSome, MatchOption};
 ghost use Rattle.hier_types.specs.Settings.{IsWithin, IsPowerOfTwo};
-ghost use Rattle.recency.specs.Kept.{touched, put_in, dirty_victim, clean_last, last_dirty, clean_entry, overwritten, poked};
+ghost use Rattle.recency.specs.Kept.{touched, put_in, dirty_victim, clean_last, last_dirty, clean_entry, overwritten, poked, without};
 ghost use Rattle.recency.specs.Levels.{set_at, set_of, with_set, kept_of, IsMasked};
 ghost use Rattle.recency.specs.Steps.{next_dirty, with_clean};
 
@@ -133,6 +133,14 @@ impl LineSets {
     {
         let index = index_of(&self.sets, self.mask, line);
         self.sets[index as usize].clean(line);
+    }
+
+    /// The line leaves its set, where it is kept. The order of the others stays.
+    pub fn forget(&mut self, line: u32)
+        ensures { self.new ≡ with_set self.old line (without (set_of self.old line).lines line) }
+    {
+        let index = index_of(&self.sets, self.mask, line);
+        self.sets[index as usize].forget(line);
     }
 
     /// A byte of the most recent line of the set of `line`.

@@ -1,6 +1,6 @@
 ghost use Rattle.std.specs.Prelude.{◌≡◌, ◌<◌};
 
-use crate::{LineSets, Order};
+use crate::{LineSet, LineSets, Order};
 
 /// The most recent slot, the least recent one, and how many are in use.
 fn ends(order: &Order) -> (Option<u32>, Option<u32>, u32) {
@@ -57,4 +57,29 @@ fn the_least_recent_line_of_a_set_leaves(rt: HostRuntime) {
     assert_eq!(rt; (sets.set_number(6), sets.set_number(3)), (0, 1));
     assert!(rt; sets.dirty_victim(10).is_none());
     assert!(rt; sets.next_dirty(0).is_none());
+    sets.forget(4);
+    for (line, is_kept) in [(4, false), (3, true), (8, true)] {
+        assert_eq!(rt; sets.copy_of(line, &mut copy), is_kept);
+    }
+}
+
+/// Of lines 1 and 2 the first one is renewed, and is still the one that leaves; then the second one is forgotten.
+#[test]
+fn a_renewed_line_stays_in_its_place(rt: HostRuntime) {
+    let Ok(mut set) = LineSet::new(rt.alloc(), 2) else {
+        panic!(rt; "no memory");
+    };
+    set.put_in(1, &[1; 64]);
+    set.put_in(2, &[2; 64]);
+    set.renew(1, &[7; 64]);
+    set.renew(3, &[8; 64]);
+    let mut copy = [0; 64];
+    for (line, is_kept, byte) in [(1, true, 7), (2, true, 2), (3, false, 2)] {
+        assert_eq!(rt; (set.copy_of(line, &mut copy), copy[0]), (is_kept, byte));
+    }
+    set.put_in(3, &[3; 64]);
+    set.forget(2);
+    for (line, is_kept) in [(1, false), (2, false), (3, true)] {
+        assert_eq!(rt; set.copy_of(line, &mut copy), is_kept);
+    }
 }
