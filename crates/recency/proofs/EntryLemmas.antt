@@ -6,7 +6,7 @@ use Rattle.recency.proofs.UseLemmas.{by_eq}
 use Rattle.recency.proofs.ListLemmas.{slice_get-set, slice_get-set_other}
 use Rattle.recency.specs.declared.entry.Entry.{Entry}
 use Rattle.recency.specs.Uses.{last_of, but_last}
-use Rattle.recency.specs.Kept.{entry_of, without, touched, clean_last, cleaned}
+use Rattle.recency.specs.Kept.{entry_of, without, touched, clean_last, cleaned, renewed}
 use Rattle.recency.specs.Levels.{IsGoodEntry, IsGood}
 
 pub entry_of-without_other : (es : List Entry) (line x : ℕ) → x ≢ line → entry_of (without es line) x ≡ entry_of es x
@@ -29,6 +29,19 @@ at_front e es line h = rw (eq-eqb e.line line h) refl
 -- or of another
 pub past_front : (e : Entry) (es : List Entry) (line : ℕ) → e.line ≢ line → entry_of (e ∷ es) line ≡ entry_of es line
 past_front e es line h = rw (ne_eqb e.line line h) refl
+
+-- a line that is not kept is not taken out, and has no copy to renew
+pub without_absent : (es : List Entry) (line : ℕ) → entry_of es line ≡ None → without es line ≡ es
+without_absent [] line none = refl
+without_absent (f ∷ es) line none =
+    by_eq f.line line (λ y. let k : Some f ≡ None = sym (at_front f es line y) ∙ none in absurd (let k2 = k in cc))
+    (λ apart. rw (ne_eqb f.line line apart) (ap (λ l. f ∷ l) (without_absent es line (sym (past_front f es line apart) ∙ none))))
+
+pub renewed_absent : (es : List Entry) (line : ℕ) (bytes : List ℕ) → entry_of es line ≡ None → renewed es line bytes ≡ es
+renewed_absent [] line bytes none = refl
+renewed_absent (f ∷ es) line bytes none =
+    by_eq f.line line (λ y. let k : Some f ≡ None = sym (at_front f es line y) ∙ none in absurd (let k2 = k in cc))
+    (λ apart. rw (ne_eqb f.line line apart) (ap (λ l. f ∷ l) (renewed_absent es line bytes (sym (past_front f es line apart) ∙ none))))
 
 -- the last entry is kept
 pub last_kept : (es : List Entry) (e : Entry) → last_of es ≡ Some e → entry_of es e.line ≡ None → ⊥

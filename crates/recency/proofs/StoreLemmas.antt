@@ -9,6 +9,7 @@ use Rattle.recency.specs.declared.entry.Tag.{Tag}
 use Rattle.recency.specs.Uses.{Used, has, removed, last_of, but_last, more_recent, IsDistinct}
 use Rattle.recency.specs.Kept.{entry_of, without, touched, dirty_entry, cleaned, clean_last, clean_in, put_in, dirty_victim, if_dirty, overwritten, poked, renewed}
 use Rattle.recency.specs.Slots.{tag_at, entry_at, entries_of, IsStored, IsSlotOf}
+use Rattle.recency.proofs.EntryLemmas.{without_absent, renewed_absent}
 use Rattle.recency.proofs.UseLemmas.{by_eq, has_front, has_past, not_both, has_apart, has_below, has-removed, has-removed_other, distinct-removed, below-removed}
 use Rattle.recency.proofs.SlotLemmas.{entries_same, slot_entry, slot_none, none_slot, last_of-map, but_last-map, last_has, last_none_empty, removed_last}
 
@@ -119,12 +120,6 @@ renewed_at tags bytes (y ∷ ss) s line b d h lt at only =
     (ap (λ z. z ∷ entries_of tags (set bytes s b) ss) (entry_bytes_other tags bytes s y b apart)
     ∙ ap (λ l. entry_at tags bytes y ∷ l) (renewed_at tags bytes ss s line b d.1 (sym (has_past y ss s apart) ∙ h) lt at (λ x k. only x (by_eq y x (λ q. has_front y ss x q) (λ ne. has_past y ss x ne ∙ k))))))
 
-renewed_none_in : (tags : List Tag) (bytes : List (List ℕ)) (ss : List ℕ) (line : ℕ) (b : List ℕ) → ((x : ℕ) → has ss x ≡ true → (tag_at tags x).line ≡ line → ⊥) → renewed (entries_of tags bytes ss) line b ≡ entries_of tags bytes ss
-renewed_none_in tags bytes [] line b none = refl
-renewed_none_in tags bytes (z ∷ ss) line b none =
-    rw (ne_eqb (tag_at tags z).line line (none z (has_front z ss z refl)))
-    (ap (λ l. entry_at tags bytes z ∷ l) (renewed_none_in tags bytes ss line b (λ x k. none x (by_eq z x (λ q. has_front z ss x q) (λ ne. has_past z ss x ne ∙ k)))))
-
 -- the slots in use after one was used
 has_used : (ss : List ℕ) (s x : ℕ) → has (s ∷ removed ss s) x ≡ true → (x ≢ s) → has ss x ≡ true
 has_used ss s x h ne = sym (has-removed_other ss s x (λ e. ne (sym e))) ∙ sym (has_past s (removed ss s) x (λ e. ne (sym e))) ∙ h
@@ -203,7 +198,7 @@ module _ {ways : ℕ} {order : Used} {tags : List Tag} {bytes : List (List ℕ)}
   renewed_slot s line b h at = renewed_at tags bytes order.slots s line b stored.tagged.distinct h (bytes_within s h) at (only_slot s line h at)
 
   pub none_renewed : (line : ℕ) (b : List ℕ) → IsSlotOf order.slots tags line None → entries_of tags bytes order.slots ≡ renewed (entries_of tags bytes order.slots) line b
-  none_renewed line b none = sym (renewed_none_in tags bytes order.slots line b none)
+  none_renewed line b none = sym (renewed_absent (entries_of tags bytes order.slots) line b (slot_none tags bytes order.slots line none))
 
   full_test : ways ≤ length order.slots → nat_lt (length (entries_of tags bytes order.slots)) ways ≡ false
   full_test full = rw length-map (le-ltb (length order.slots) ways full)
@@ -250,12 +245,6 @@ entries_count tags bytes ss = length-map ss (entry_at tags bytes)
 has_dropped : (ss : List ℕ) (s x : ℕ) → IsDistinct ss → has (removed ss s) x ≡ true → has ss x ≡ true
 has_dropped ss s x d h = sym (has-removed_other ss s x (λ e. not_both (has (removed ss s) s) (ap (has (removed ss s)) e ∙ h) (has-removed ss s d))) ∙ h
 
-without_absent : (tags : List Tag) (bytes : List (List ℕ)) (ss : List ℕ) (line : ℕ) → ((x : ℕ) → has ss x ≡ true → (tag_at tags x).line ≡ line → ⊥) → without (entries_of tags bytes ss) line ≡ entries_of tags bytes ss
-without_absent tags bytes [] line none = refl
-without_absent tags bytes (z ∷ ss) line none =
-    rw (ne_eqb (tag_at tags z).line line (none z (has_front z ss z refl)))
-    (ap (λ l. entry_at tags bytes z ∷ l) (without_absent tags bytes ss line (λ x k. none x (by_eq z x (λ q. has_front z ss x q) (λ ne. has_past z ss x ne ∙ k)))))
-
 last_of-cons : (x e : Entry) (es : List Entry) → last_of es ≡ Some e → last_of (x ∷ es) ≡ Some e
 last_of-cons x e [] is = absurd (let k = is in cc)
 last_of-cons x e (y ∷ es) is = is
@@ -299,7 +288,7 @@ module _ {ways : ℕ} {order : Used} {tags : List Tag} {bytes : List (List ℕ)}
   found_without s line h at = sym (slot_entry tags bytes order.slots s line stored.tagged.distinct h at (only_slot stored s line h at)).1
 
   pub none_without : (line : ℕ) → IsSlotOf order.slots tags line None → entries_of tags bytes order.slots ≡ without (entries_of tags bytes order.slots) line
-  none_without line none = sym (without_absent tags bytes order.slots line none)
+  none_without line none = sym (without_absent (entries_of tags bytes order.slots) line (slot_none tags bytes order.slots line none))
 
   pub oldest_none : (line : ℕ) → last_of order.slots ≡ None → last_of (without (entries_of tags bytes order.slots) line) ≡ None
   oldest_none line is = empty order.slots is

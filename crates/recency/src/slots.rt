@@ -8,12 +8,17 @@ use crate::entry::Tag;
 use crate::order::Order;
 use crate::storage::tag_of;
 
-/// The slot in use that has the line.
+/// The slot in use that has the line. The most recent one, which is asked for the most, is tried first.
 pub fn slot_of(order: &Order, tags: &[Tag], ways: u32, line: u32) -> Option<u32>
     requires ways { ways ≡ order.now.ways }
     requires tagged { IsTagged order.now tags.now }
     ensures { IsSlotOf order.now.slots tags.now line result }
 {
+    if let Some(slot) = order.first() {
+        if tag_of(tags, slot).line == line {
+            return Some(slot);
+        }
+    }
     for slot in 0..ways {
         if tag_of(tags, slot).line == line && order.has(slot) {
             return Some(slot);
