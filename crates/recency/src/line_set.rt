@@ -121,7 +121,7 @@ impl LineSet {
     }
 
     /// The line that is written below before another is put in: the least recent of a full set, if it is dirty.
-    pub fn dirty_victim(&self) -> Option<Entry>
+    pub(crate) fn dirty_victim(&self) -> Option<Entry>
         ensures { result ≡ dirty_victim self.now }
     {
         if self.order.len() < self.ways {
@@ -137,7 +137,7 @@ impl LineSet {
     }
 
     /// The least recent line is clean from now on.
-    pub fn clean_last(&mut self)
+    pub(crate) fn clean_last(&mut self)
         ensures { self.new ≡ with_lines self.old (clean_last self.old.lines) }
     {
         let Some(slot) = self.order.last() else {
@@ -147,7 +147,7 @@ impl LineSet {
     }
 
     /// The least recent dirty line.
-    pub fn last_dirty(&self) -> Option<Entry>
+    pub(crate) fn last_dirty(&self) -> Option<Entry>
         ensures { result ≡ last_dirty self.now.lines }
     {
         let Some(slot) = last_dirty_slot(&self.order, &self.tags) else {
@@ -157,7 +157,7 @@ impl LineSet {
     }
 
     /// The line is clean from now on, where it is kept.
-    pub fn clean(&mut self, line: u32)
+    pub(crate) fn clean(&mut self, line: u32)
         ensures { self.new ≡ with_lines self.old (clean_in self.old.lines line) }
     {
         let Some(slot) = slot_of(&self.order, &self.tags, self.ways, line) else {
@@ -167,7 +167,7 @@ impl LineSet {
     }
 
     /// A byte of the most recent line.
-    pub fn first_byte(&self, offset: u32) -> u8
+    pub(crate) fn first_byte(&self, offset: u32) -> u8
         requires some { 0 < length self.now.lines }
         requires inside { offset < 64 }
         ensures { IfSome (slice_get self.now.lines 0) (λ e. result ≡ slice_index e.bytes offset) }
@@ -177,7 +177,7 @@ impl LineSet {
     }
 
     /// Changes a byte of the most recent line, which is dirty from now on.
-    pub fn set_first_byte(&mut self, offset: u32, byte: u8)
+    pub(crate) fn set_first_byte(&mut self, offset: u32, byte: u8)
         requires some { 0 < length self.old.lines }
         requires inside { offset < 64 }
         ensures { IfSome (slice_get self.old.lines 0) (λ e. self.new ≡ with_lines self.old (poked self.old.lines e.line offset byte)) }
@@ -188,7 +188,7 @@ impl LineSet {
     }
 
     /// Copies the bytes of the most recent line.
-    pub fn copy_first(&self, into: &mut Line)
+    pub(crate) fn copy_first(&self, into: &mut Line)
         requires { 0 < length self.now.lines }
         ensures { IfSome (slice_get self.now.lines 0) (λ e. into.new ≡ e.bytes) }
     {
@@ -197,7 +197,7 @@ impl LineSet {
     }
 
     /// Changes the bytes of the most recent line, which is dirty from now on.
-    pub fn set_first(&mut self, from: &Line)
+    pub(crate) fn set_first(&mut self, from: &Line)
         requires { 0 < length self.old.lines }
         ensures { IfSome (slice_get self.old.lines 0) (λ e. self.new ≡ with_lines self.old (overwritten self.old.lines e.line from.now)) }
     {
