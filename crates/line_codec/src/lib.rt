@@ -12,4 +12,4 @@ mod tests;
 
 pub use payloads::{Form, Packed, pack, unpack};
 pub use sizes::{size, stored_size};
-pub use slots::{from_slot, slots_say_lines, to_slot};
+pub use slots::{from_slot, slots_say_lines, to_slot, used_size};

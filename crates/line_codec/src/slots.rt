@@ -1,10 +1,12 @@
 ghost use Rattle.std.specs.Prelude.{◌≡◌, ◌≤◌, ℕ, ◌-◌, ◌++◌, List, Some, None, MatchOption, IfSome, IsTrue, IsFalse, length, replicate};
 ghost use Rattle.arrayvec.specs.ArrayVec.{array_vec_len};
-ghost use Rattle.line_codec.specs.Slots.{stored, fits, encoding, padded, bdi_meaning, Says, line_in, SlotsSayLines};
+ghost use Rattle.fpc_codec.specs.Line.{Means, size_of};
+ghost use Rattle.fpc_codec.specs.Reading.{line_said};
+ghost use Rattle.line_codec.specs.Slots.{stored, fits, encoding, padded, bdi_meaning, Says, line_in, used_in, SlotsSayLines};
 
 use arrayvec::ArrayVec;
 use bdi_codec::{bdi_decode, bdi_encode, mask_bytes, mask_from_bytes, mask_to_bytes, row_size};
-use fpc_codec::{fpc_decode, fpc_encode};
+use fpc_codec::{fpc_decode, fpc_encode, fpc_size};
 use hier_types::Codec;
 
 /// The rows of base-delta-immediate that shorten a line go up to here, and each is its slots' header.
@@ -116,6 +118,29 @@ pub fn from_slot(slot: &[u8]) -> Option<[u8; 64]>
         [row @ 0..=LAST_ROW, bytes @ ..] => bdi_from_slot(*row, bytes),
         [PATTERNS_HEADER, bytes @ ..] => fpc_decode(bytes),
         _ => None,
+    }
+}
+
+// The bytes of the least codes of the line that the bytes say.
+fn patterns_size(bytes: &[u8]) -> u8
+    requires { (line : List ℕ) × Means bytes.now line }
+    ensures size { result ≡ size_of (line_said bytes.now) }
+    ensures high { result ≤ 64 }
+{
+    fpc_size(&fpc_decode(bytes).unwrap())
+}
+
+/// The bytes of the slot that say its line: the header, the payload and, under base-delta-immediate, the mask. It wants
+/// a slot that says a line, and takes the codes of frequent patterns to be the line's least, as [`to_slot`] makes them.
+#[tactic(auto, unfolding(crate::specs::Slots::Says, crate::specs::Slots::used_in))]
+pub fn used_size(slot: &[u8]) -> u8
+    requires { (line : List ℕ) × Says slot.now line }
+    ensures { result ≡ used_in slot.now }
+{
+    match slot {
+        [row @ 0..=LAST_ROW, ..] => 1 + row_size(*row) + mask_bytes(*row),
+        [PATTERNS_HEADER, bytes @ ..] => 1 + patterns_size(bytes),
+        _ => unreachable!(),
     }
 }
 
