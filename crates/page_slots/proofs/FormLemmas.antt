@@ -5,12 +5,8 @@ use Rattle.std.proofs.lemmas.Nat.{mul-le}
 use Rattle.std.proofs.lemmas.Bool.{cases_lt}
 use Rattle.line_codec.specs.Layout.{cap}
 use Rattle.page_slots.specs.declared.form.Form.{Form}
-use Rattle.page_slots.specs.Forms.{IsForm, packed_form, room, slot_start}
+use Rattle.page_slots.specs.Forms.{IsForm, packed_form, room, slot_start, Apart}
 use Rattle.page_slots.specs.Sound.{HoldsSlots}
-
--- m bytes from i on and n bytes from `at` on share no byte
-abbrev pub Apart : ℕ → ℕ → ℕ → ℕ → Type 0
-Apart i m at n = (i + m ≤ at) ⊎ (at + n ≤ i)
 
 pub apart_of : (i j : ℕ) → i ≢ j → (i < j) ⊎ (j < i)
 apart_of i j ne = elim (cases_lt i j) [ inl a ↦ inl a | inr b ↦ inr (omega arith) ]

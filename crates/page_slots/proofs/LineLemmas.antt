@@ -6,7 +6,7 @@ use Rattle.std.proofs.lemmas.Bool.{cases_lt}
 use Rattle.std.proofs.lemmas.Grind.{get_or_default_zero}
 use Rattle.std.proofs.lemmas.List.{get_or_past, take-append-drop}
 use Rattle.hier_types.specs.declared.settings.Codec.{Codec}
-use Rattle.line_codec.specs.Slots.{stored, encoding, fits, Begins, Says, line_in}
+use Rattle.line_codec.specs.Slots.{stored, encoding, fits, Begins, Says, line_in, used_in}
 use Rattle.line_codec.proofs.SlotLemmas.{encoding_says, slots_say}
 use Rattle.byte_parts.specs.Parts.{part}
 use Rattle.page_slots.specs.declared.form.Form.{Form}
@@ -86,3 +86,20 @@ pub slot_says_line : (codec : Codec) (form : Form) (bytes : List ℕ) (i : ℕ) 
     → meta bytes i < 128 → start ≡ slot_start form i → n ≡ room form i → Says (part start n bytes) line
 slot_says_line codec form bytes i line start n has low e f =
     rw (e, f) (slot_says_by codec form bytes i line (fits codec (room form i) line) has.whole has.below refl low has.stands)
+
+-- and it takes as many bytes of its slot as its stored size
+slot_uses_by : (codec : Codec) (form : Form) (bytes : List ℕ) (i : ℕ) (line : List ℕ) (fit : Bool) → length line ≡ 64 → All (λ byte. byte < 256) line
+    → fits codec (room form i) line ≡ fit → meta bytes i < 128 → Stands codec form bytes i line fit
+    → (stored codec line ≡ Some (used_in (slot form bytes i))) × (used_in (slot form bytes i) ≤ room form i)
+slot_uses_by codec form bytes i line true whole below fit low h =
+    let short = fits_stored codec (room form i) line fit in
+    let used : used_in (slot form bytes i) ≡ short.0 = (slots_say codec line (slot form bytes i) short.0 whole below short.1 h.begins).1 in
+    let within : nat_le short.0 (room form i) ≡ true = rw short.1 at fit in
+    let most : short.0 ≤ room form i = grind (arith, nat_tests) in
+    (short.1 ∙ ap Some (sym used), omega arith)
+slot_uses_by codec form bytes i line false whole below fit low h = absurd (omega (arith, h.marked))
+
+pub slot_uses : (codec : Codec) (form : Form) (bytes : List ℕ) (i : ℕ) (line : List ℕ) → HasLine codec form bytes i line → meta bytes i < 128
+    → (stored codec line ≡ Some (used_in (slot form bytes i))) × (used_in (slot form bytes i) ≤ room form i)
+slot_uses codec form bytes i line has low =
+    slot_uses_by codec form bytes i line (fits codec (room form i) line) has.whole has.below refl low has.stands

@@ -9,10 +9,10 @@ use Rattle.line_codec.specs.Slots.{encoding, fits, padded, Begins}
 use Rattle.byte_parts.specs.Parts.{part, ChangesWithin}
 use Rattle.byte_parts.proofs.PartLemmas.{part_stays}
 use Rattle.page_slots.specs.declared.form.Form.{Form}
-use Rattle.page_slots.specs.Forms.{IsForm, room, slot_start}
+use Rattle.page_slots.specs.Forms.{IsForm, room, slot_start, Apart}
 use Rattle.page_slots.specs.Lines.{meta, chunk_of, chunk, slot, mark, IsException, Stands, HasLine, HasLines, HasOthers}
 use Rattle.page_slots.specs.Puts.{IsTaken, IsLowestFree, HasNoPlace, GoesToPlace, Misses, PutsLine, with_line, in_slot, in_chunk}
-use Rattle.page_slots.proofs.FormLemmas.{Apart, apart_of, slot_low, slot_within, slots_apart}
+use Rattle.page_slots.proofs.FormLemmas.{apart_of, slot_low, slot_within, slots_apart}
 use Rattle.page_slots.proofs.LineLemmas.{mark_le}
 
 -- what is written into a slot begins with what it is made of

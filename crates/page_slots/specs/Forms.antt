@@ -1,5 +1,5 @@
 -- Where the slots of a page are, and how many chunks its block has.
-use Rattle.std.specs.Prelude.{ℕ, ◌≡◌, ◌+◌, ◌*◌, ◌≤◌, nat_lt, if◌then◌else◌}
+use Rattle.std.specs.Prelude.{ℕ, ◌≡◌, ◌⊎◌, ◌+◌, ◌*◌, ◌≤◌, nat_lt, if◌then◌else◌}
 use Rattle.line_codec.specs.Layout.{cap, slot_at}
 use Rattle.page_slots.specs.declared.form.Form.{Form}
 
@@ -21,3 +21,7 @@ room form i = if nat_lt i form.at then form.small else form.large
 -- its first byte, counted from the block's first byte
 unfoldable pub slot_start : Form → ℕ → ℕ
 slot_start form i = slot_at (room form i) i
+
+-- m bytes from i on and n bytes from `at` on share no byte
+abbrev pub Apart : ℕ → ℕ → ℕ → ℕ → Type 0
+Apart i m at n = (i + m ≤ at) ⊎ (at + n ≤ i)

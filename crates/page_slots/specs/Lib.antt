@@ -2,5 +2,6 @@ pub mod Descs
 pub mod Forms
 pub mod Laid
 pub mod Lines
+pub mod Places
 pub mod Puts
 pub mod Sound

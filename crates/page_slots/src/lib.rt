@@ -6,6 +6,7 @@
 mod desc;
 mod form;
 mod laying;
+mod placing;
 mod putting;
 mod reading;
 #[cfg(test)]
@@ -13,5 +14,6 @@ mod tests;
 
 pub use desc::{Desc, Shape};
 pub use laying::{lay, lay_raw, packed_pages_have_room};
+pub use placing::{PlaceKind, PlaceRow, lines_have_one_place, place, places_are_apart, places_fit};
 pub use putting::{PutResult, put};
 pub use reading::{gather, get};

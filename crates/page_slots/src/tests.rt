@@ -92,6 +92,38 @@ fn lines_fill_and_leave_the_chunks(rt: HostRuntime) {
 }
 
 #[test]
+fn places_of_a_packed_page(rt: HostRuntime) {
+    let Ok(mut frames) = Frames::new(rt.alloc(), 1) else {
+        panic!(rt; "no memory");
+    };
+    let Some(block) = frames.take(0) else {
+        panic!(rt; "no unit");
+    };
+    assert_eq!(rt; block.order(), 0);
+    let lines = page_of(plain(), 3);
+    assert_eq!(rt; chunks_for(Codec::Bdi, 4, &lines), 8);
+    let mut bytes = [0; 512];
+    let desc = laid(Codec::Bdi, &lines, block, &mut bytes);
+    for (index, kind, line, at, room, used) in [
+        (0, PlaceKind::Block, 64, 0, 512, 512),
+        (1, PlaceKind::Meta, 64, 0, 64, 64),
+        (2, PlaceKind::Exception, 0, 320, 64, 64),
+        (5, PlaceKind::Slot, 3, 76, 4, 2),
+        (65, PlaceKind::Slot, 63, 316, 4, 2),
+    ] {
+        let row = PlaceRow {
+            kind,
+            line,
+            at,
+            room,
+            used,
+        };
+        assert_eq!(rt; place(&desc, &bytes, index), Some(row));
+    }
+    assert_eq!(rt; place(&desc, &bytes, 66), None);
+}
+
+#[test]
 fn raw_lines_have_their_places(rt: HostRuntime) {
     let Ok(mut frames) = Frames::new(rt.alloc(), 1) else {
         panic!(rt; "no memory");
@@ -110,6 +142,15 @@ fn raw_lines_have_their_places(rt: HostRuntime) {
         PutResult::Done
     );
     assert_eq!(rt; [bytes[4031], bytes[4032], bytes[4033]], [0x12, 1, 0]);
+    let last = PlaceRow {
+        kind: PlaceKind::Raw,
+        line: 63,
+        at: 4032,
+        room: 64,
+        used: 64,
+    };
+    assert_eq!(rt; place(&desc, &bytes, 64), Some(last));
+    assert_eq!(rt; place(&desc, &bytes, 65), None);
     lines[63] = line;
     let mut found = [[0; 64]; 64];
     gather(&desc, &bytes, &mut found);
@@ -121,4 +162,5 @@ fn zero_pages_have_no_bytes(rt: HostRuntime) {
     let mut found = plain();
     get(&Desc::Zero, &[], 5, &mut found);
     assert_eq!(rt; found, [0; 64]);
+    assert_eq!(rt; place(&Desc::Zero, &[], 0), None);
 }
