@@ -1,13 +1,13 @@
 // What the lines of a page take in its slots.
-ghost use Rattle.std.specs.Prelude.{◌≡◌, ℕ, ◌<◌, List, length, replicate, slice_set};
+ghost use Rattle.std.specs.Prelude.{◌≡◌, ℕ, ◌<◌, ◌≤◌, List, length, replicate, slice_set};
 ghost use Rattle.hier_types.specs.declared.settings.Codec.{Codec as AnyCodec};
 ghost use Rattle.hier_types.specs.Lines.{AreLines, zero_line};
-ghost use Rattle.line_codec.specs.Layout.{stored_sizes};
+ghost use Rattle.line_codec.specs.Layout.{IsTarget, exceptions_of, stored_sizes};
 ghost use Rattle.page_plan.specs.KeptSizes.{kept_size, kept_sizes};
 ghost use Rattle.page_plan.specs.PagePlan.{IsInRange, plan_of};
 ghost use Rattle.page_plan.specs.Sizes.{order_of, row_by};
 
-use crate::layout::encoded;
+use crate::layout::{encoded, exceptions};
 use crate::least::{PagePlan, least_plan};
 use hier_types::{Codec, Line};
 use line_codec::stored_size;
@@ -85,6 +85,16 @@ impl PageSizes {
             return PagePlan::Zero;
         }
         least_plan(&self.sizes)
+    }
+
+    /// How many of the page's lines a slot of `target` bytes does not hold; 0 to 64.
+    pub fn exceptions(&self, target: u8) -> u8
+        requires { IsTarget target }
+        ensures value { (codec : AnyCodec) (lines : List (List ℕ)) → AreLines lines
+            → kept_sizes codec lines ≡ self.now → result ≡ exceptions_of (stored_sizes codec lines) target }
+        ensures most { result ≤ 64 }
+    {
+        exceptions(&self.sizes, target)
     }
 
     /// What a page whose lines have these sizes takes at a plan: the order of its block, its exceptions, and the
