@@ -1,7 +1,8 @@
 // How one page is kept.
-ghost use Rattle.std.specs.Prelude.{◌≡◌};
-ghost use Rattle.page_slots.specs.Descs.{shape_of};
+ghost use Rattle.std.specs.Prelude.{◌≡◌, ◌≤◌};
+ghost use Rattle.page_slots.specs.Descs.{shape_of, size_of};
 
+use crate::form::chunks_in;
 use buddy_frames::Block;
 
 /// How a page is kept, with the block that it holds.
@@ -51,6 +52,20 @@ impl Desc {
                 order: block.order(),
                 target: *target,
             },
+        }
+    }
+}
+
+impl Shape {
+    /// The bytes of a page of this shape in its block: none, 512, 1,024, 2,048 or 4,096.
+    pub fn size(self) -> usize
+        ensures value { result ≡ size_of self }
+        ensures most { result ≤ 4096 }
+    {
+        match self {
+            Shape::Zero => 0,
+            Shape::Raw => 4096,
+            Shape::Packed { order, .. } => 64 * chunks_in(order) as usize,
         }
     }
 }

@@ -13,8 +13,10 @@ pub(crate) struct Form {
     pub(crate) chunks: u8,
 }
 
-fn chunks_in(order: u8) -> u8
-    ensures { result ≡ cap order }
+// The chunks of a packed page's block.
+pub(crate) fn chunks_in(order: u8) -> u8
+    ensures value { result ≡ cap order }
+    ensures most { result ≤ 32 }
 {
     match order {
         0 => 8,

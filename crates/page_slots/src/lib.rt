@@ -1,4 +1,4 @@
-//! One page in the bytes of its block: the slots and the chunks of its lines, and how they are read and written.
+//! One page in the bytes of its block: where its lines stand, in slots and chunks, and how they are read and written.
 //! Contracts see a page as the list of its 64 lines, which a descriptor and the bytes of the block determine.
 //! It never looks at the bytes of another page, never takes or gives back a block, and never picks a page's target.
 #![tactic(auto)]
