@@ -7,10 +7,11 @@ use Rattle.buddy_frames.specs.Units.{Place, place_at, in_use, IsUsedPlace, AreAp
 use Rattle.buddy_frames.proofs.MoveLemmas.{AreApart-swap}
 use Rattle.page_plan.specs.declared.least.PagePlan.{PagePlan}
 use Rattle.page_plan.specs.declared.least.PagePlan.TheVariants as plan
-use Rattle.page_store.specs.declared.desc.Desc.{Desc}
-use Rattle.page_store.specs.declared.desc.Desc.TheVariants.{Zero, Packed, Raw}
+use Rattle.page_slots.specs.declared.desc.Desc.{Desc}
+use Rattle.page_slots.specs.declared.desc.Desc.TheVariants.{Zero, Packed, Raw}
 use Rattle.page_plan.specs.Sizes.{order_of}
-use Rattle.page_store.specs.PageBlocks.{block_of, block_at, IsAtPlan, IsNewBlock, moved, Outgrows, ComesToPlan, HasRoom, LacksRoom, IsIn, AreSound, IsFreeFor}
+use Rattle.page_slots.specs.Descs.{block_of}
+use Rattle.page_store.specs.PageBlocks.{block_at, IsAtPlan, IsNewBlock, moved, Outgrows, ComesToPlan, HasRoom, LacksRoom, IsIn, AreSound, IsFreeFor}
 use Rattle.page_store.proofs.ChangeLemmas.{kept_block, kept_units}
 use Rattle.page_store.specs.BlockChanges.{IsApartFrom, HasNoneBut, ChangesBlock}
 

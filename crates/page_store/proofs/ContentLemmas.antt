@@ -1,5 +1,5 @@
 -- The calls of a store are calls of its contents, and keep its sizing.
-use Rattle.std.proofs.Common.{◌≡◌, ◌/◌, ◌∙◌, ℕ, List, Result, Ok, Err, set, refl, sym, ap, subst}
+use Rattle.std.proofs.Common.{◌≡◌, ◌/◌, ◌∙◌, ℕ, List, Result, Ok, Err, set, refl, sym, subst}
 use Rattle.hier_types.specs.Calls.{Answer}
 use Rattle.hier_types.specs.declared.faults.NoSpace.{NoSpace}
 use Rattle.hier_types.specs.Causes.{raised}
@@ -7,16 +7,16 @@ use Rattle.page_store.specs.Calls.{Outline, StoreRead, StoreWrite, Tidies}
 use Rattle.page_store.specs.Contents.{ContentsRead, ContentsWrite, MayCut, SureWritesAreOne, contents_of}
 use Rattle.page_store.specs.Store.{Store, Sizing, sizing_of}
 
--- a read
-pub store_reads : (sizing : Sizing) (s : Store) (line : ℕ) (answer : Result (List ℕ) NoSpace) (t : Store) → sizing_of s ≡ sizing → StoreRead s line answer t
-    → (sizing_of t ≡ sizing) × ContentsRead (contents_of s) line answer (contents_of t)
-store_reads sizing s line (Ok bytes) t keeps did = (did.outline.sizing_is ∙ keeps, (did.bytes_are, ap contents_of did.rest))
-store_reads sizing s line (Err refusal) t keeps did = absurd did
-
 -- the contents after a call
 contents_are : (s : Store) (page : ℕ) (lines : List (List ℕ)) (reads writes : ℕ) (t : Store) → Outline s page lines reads writes t
     → contents_of t ≡ record { lines = lines; reads = reads; writes = writes }
 contents_are s page lines reads writes t outline = rw (outline.lines_are, outline.reads_are, outline.writes_are) refl
+
+-- a read
+pub store_reads : (sizing : Sizing) (s : Store) (line : ℕ) (answer : Result (List ℕ) NoSpace) (t : Store) → sizing_of s ≡ sizing → StoreRead s line answer t
+    → (sizing_of t ≡ sizing) × ContentsRead (contents_of s) line answer (contents_of t)
+store_reads sizing s line (Ok bytes) t keeps did = (did.outline.sizing_is ∙ keeps, (did.bytes_are, contents_are s (line / 64) s.lines (raised s.counts.reads) s.counts.writes t did.outline))
+store_reads sizing s line (Err refusal) t keeps did = absurd did
 
 -- a write
 pub store_writes : (sizing : Sizing) (s : Store) (line : ℕ) (bytes : List ℕ) (answer : Answer) (t : Store) → sizing_of s ≡ sizing → StoreWrite s line bytes answer t

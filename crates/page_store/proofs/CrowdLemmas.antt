@@ -14,11 +14,12 @@ use Rattle.page_plan.specs.declared.least.PagePlan.{PagePlan}
 use Rattle.page_plan.specs.declared.least.PagePlan.TheVariants as plan
 use Rattle.page_plan.specs.PagePlan.{IsPlan, plan_of}
 use Rattle.page_plan.proofs.PlanLemmas.{IsPlan-plan_of}
-use Rattle.page_store.specs.declared.desc.Desc.{Desc}
-use Rattle.page_store.specs.declared.desc.Desc.TheVariants.{Zero, Packed, Raw}
+use Rattle.page_slots.specs.declared.desc.Desc.{Desc}
+use Rattle.page_slots.specs.declared.desc.Desc.TheVariants.{Zero, Packed, Raw}
 use Rattle.page_plan.specs.Pages.{page_of, plans_of}
 use Rattle.page_plan.specs.Sizes.{order_of}
-use Rattle.page_store.specs.PageBlocks.{block_of, block_at, AreSound, IsAtPlan, IsFreeFor, IsIn}
+use Rattle.page_slots.specs.Descs.{block_of}
+use Rattle.page_store.specs.PageBlocks.{block_at, AreSound, IsAtPlan, IsFreeFor, IsIn}
 use Rattle.page_store.specs.Store.{Store, IsSound, Sizing, sizing_of}
 use Rattle.page_store.specs.Crowds.{Crowded, Tight, share, share_of_order}
 use Rattle.page_store.proofs.BlockLemmas.{block_at-same, block_at-other}

@@ -7,3 +7,10 @@ pub mod StoreLemmas
 pub mod ContentLemmas
 pub mod OneLemmas
 pub mod TotalLemmas
+pub mod RoomLemmas
+pub mod BlockRoomLemmas
+pub mod HeldLemmas
+pub mod PagesLemmas
+pub mod TidyLemmas
+pub mod CallLemmas
+pub mod FreshLemmas

@@ -1,27 +1,41 @@
--- The totals of a memory, page after page.
-use Rattle.std.proofs.Common.{◌≡◌, ◌<◌, ◌+◌, ◌/◌, ◌∙◌, ℕ, option_map, List, [], ◌∷◌, length, map, take, get_or, refl, ap, arith}
+-- The totals of the pages, page after page.
+use Rattle.std.proofs.Common.{◌≡◌, ◌<◌, ◌≤◌, ◌+◌, ◌/◌, ◌∙◌, ℕ, suc, List, [], ◌∷◌, ◌++◌, Option, IfSome, length, map, refl, sym, ap, subst, arith, add-one}
 use Rattle.std.specs.List.{sum_by}
-use Rattle.std.proofs.lemmas.List.{length-map, take_more}
+use Rattle.std.proofs.lemmas.List.{get_or-map, length-map, same_lists}
 use Rattle.std.proofs.lemmas.List.Sums.{sum_by-append, sum_by-cons}
-use Rattle.std.proofs.lemmas.Option.{get_or_from_slice_get, slice_get-map}
+use Rattle.hier_types.specs.Tabulate.{tabulate}
 use Rattle.hier_types.specs.declared.settings.Codec.{Codec}
+use Rattle.hier_types.proofs.TableLemmas.{length-tabulate, get_or-tabulate}
+use Rattle.line_codec.specs.Layout.{stored_sizes}
+use Rattle.page_plan.specs.declared.least.PagePlan.{PagePlan}
+use Rattle.page_plan.specs.declared.least.PagePlan.TheVariants as plan
+use Rattle.page_plan.specs.PagePlan.{IsPlan, plan_of}
 use Rattle.page_plan.specs.Pages.{page_of, pages_of}
-use Rattle.page_plan.specs.Sizes.{row_of}
-use Rattle.page_plan.proofs.PageLemmas.{length-pages_of, pages_of-get}
+use Rattle.page_plan.specs.Sizes.{order_of, row_by, row_of, sizes_of_memory}
+use Rattle.page_plan.proofs.PageLemmas.{length-pages_of}
+use Rattle.page_plan.proofs.PlanLemmas.{IsPlan-plan_of}
+use Rattle.page_slots.specs.declared.desc.Desc.{Desc}
+use Rattle.page_slots.specs.declared.desc.Desc.TheVariants as descs
+use Rattle.page_slots.specs.declared.desc.Shape.{Shape}
+use Rattle.page_slots.specs.declared.desc.Shape.TheVariants as shapes
+use Rattle.page_slots.specs.Descs.{shape_of}
+use Rattle.page_slots.specs.Sound.{IsSound as IsSoundPage}
+use Rattle.page_store.specs.Rooms.{HasTarget}
+use Rattle.page_store.specs.PageBlocks.{IsAtPlan}
+use Rattle.page_store.specs.Rows.{lying, row_at, totals_at}
+use Rattle.page_store.specs.Store.{AreAtPlan, IsSound, Store, desc_at, shape_at}
+use Rattle.page_store.proofs.BlockRoomLemmas.{desc_there}
+use Rattle.page_store.proofs.RoomLemmas.{helds_at}
 use Rattle.size_ledger.specs.declared.row.SizeRow.{SizeRow}
-use Rattle.size_ledger.specs.Shares.{plus, share, totals_of}
+use Rattle.size_ledger.specs.Shares.{no_pages, plus, share, totals_of}
 
--- the rows of all pages
-abbrev pub rows_of : Codec → List (List ℕ) → List SizeRow
-rows_of codec lines = map (row_of codec) (pages_of lines)
-
-module _ (rows : List SizeRow) (i : ℕ) (d : SizeRow) (lt : i < length rows) where
-  sum_more : (f : SizeRow → ℕ) → sum_by f (take (i + 1) rows) ≡ sum_by f (take i rows) + f (get_or rows i d)
+module _ (rows : List SizeRow) (row : SizeRow) where
+  sum_more : (f : SizeRow → ℕ) → sum_by f (rows ++ row ∷ []) ≡ sum_by f rows + f row
   sum_more f =
-      let one : sum_by f (get_or rows i d ∷ []) ≡ f (get_or rows i d) = omega (arith, sum_by-cons f (get_or rows i d) []) in
-      ap (sum_by f) (take_more rows i d lt) ∙ sum_by-append f (take i rows) (get_or rows i d ∷ []) ∙ ap (λ n. sum_by f (take i rows) + n) one
+      let one : sum_by f (row ∷ []) ≡ f row = omega (arith, sum_by-cons f row []) in
+      sum_by-append f rows (row ∷ []) ∙ ap (λ n. sum_by f rows + n) one
 
-  totals_more : totals_of (take (i + 1) rows) ≡ plus (totals_of (take i rows)) (share (get_or rows i d))
+  totals_more : totals_of (rows ++ row ∷ []) ≡ plus (totals_of rows) (share row)
   totals_more =
       rw (
         sum_more (λ row. (share row).zero),
@@ -35,11 +49,52 @@ module _ (rows : List SizeRow) (i : ℕ) (d : SizeRow) (lt : i < length rows) wh
       ) refl
 
 -- one page more
-pub totals_next : (codec : Codec) (lines : List (List ℕ)) (page : ℕ) → page < length lines / 64
-    → totals_of (take (page + 1) (rows_of codec lines)) ≡ plus (totals_of (take page (rows_of codec lines))) (share (row_of codec (page_of lines page)))
-totals_next codec lines page lt =
-    let rows = rows_of codec lines in
-    let row = row_of codec (page_of lines page) in
-    let inside : page < length rows = omega (arith, lt, length-map (pages_of lines) (row_of codec), length-pages_of lines) in
-    let there = slice_get-map (row_of codec) (pages_of lines) page ∙ ap (λ o. option_map (row_of codec) o) (pages_of-get lines page lt) in
-    totals_more rows page row inside ∙ ap (λ r. plus (totals_of (take page rows)) (share r)) (get_or_from_slice_get rows page row row there)
+pub totals_next : (f : ℕ → SizeRow) (page : ℕ) → totals_of (tabulate f (page + 1)) ≡ plus (totals_of (tabulate f page)) (share (f page))
+totals_next f page =
+    let next : totals_of (tabulate f (suc page)) ≡ plus (totals_of (tabulate f page)) (share (f page)) = unfold tabulate in totals_more (tabulate f page) (f page) in
+    subst (λ (n : ℕ). totals_of (tabulate f n) ≡ plus (totals_of (tabulate f page)) (share (f page))) (sym (add-one page)) next
+
+-- a page at its plan keeps to that plan
+lies_at_plan : (codec : Codec) (lines : List (List ℕ)) (p : PagePlan) (d : Desc) → IsPlan codec lines p → IsAtPlan p d → lying (shape_of d) (stored_sizes codec lines) ≡ p
+lies_at_plan codec lines plan.Zero descs.Zero is at = refl
+lies_at_plan codec lines plan.Zero (descs.Packed block target) is at = absurd at
+lies_at_plan codec lines plan.Zero (descs.Raw block) is at = absurd at
+lies_at_plan codec lines (plan.Packed order target exceptions) descs.Zero is at = absurd at
+lies_at_plan codec lines (plan.Packed order target exceptions) (descs.Packed block t) is at = rw (at.0, at.1, is.1.counted) refl
+lies_at_plan codec lines (plan.Packed order target exceptions) (descs.Raw block) is at = absurd at
+lies_at_plan codec lines plan.Raw descs.Zero is at = absurd at
+lies_at_plan codec lines plan.Raw (descs.Packed block target) is at = absurd at
+lies_at_plan codec lines plan.Raw (descs.Raw block) is at = refl
+
+-- where each page is at its plan, the lines alone tell the totals
+pub totals_planned : (s : Store) → IsSound s → AreAtPlan s → totals_at s ≡ sizes_of_memory s.codec s.lines
+unfolding totals_at sizes_of_memory
+totals_planned s sound planned =
+    let many : length s.lines / 64 ≡ length s.descriptors = omega (arith, sound.whole) in
+    let left = length-tabulate (row_at s) (length s.descriptors) in
+    let right = length-map (pages_of s.lines) (row_of s.codec) in
+    ap totals_of (same_lists (tabulate (row_at s) (length s.descriptors)) (map (row_of s.codec) (pages_of s.lines)) (omega (arith, left, right, length-pages_of s.lines, many))
+    (λ page d within.
+    let inside : page < length s.descriptors = omega (arith, left) in
+    let lines = page_of s.lines page in
+    let at : IsAtPlan (plan_of s.codec lines) (desc_at s.descriptors page) = planned page (desc_at s.descriptors page) (desc_there s.descriptors page inside) in
+    let shape : shape_at s page ≡ shape_of (desc_at s.descriptors page) = ap (λ h. h.shape) (helds_at s.descriptors page inside) in
+    let lies : lying (shape_at s page) (stored_sizes s.codec lines) ≡ plan_of s.codec lines =
+    ap (λ (f : Shape). lying f (stored_sizes s.codec lines)) shape ∙ lies_at_plan s.codec lines (plan_of s.codec lines) (desc_at s.descriptors page) (IsPlan-plan_of s.codec lines) at in
+    get_or-tabulate d (row_at s) (length s.descriptors) page inside ∙ ap (λ (p : PagePlan). row_by p (stored_sizes s.codec lines)) lies
+    ∙ sym (get_or-map (row_of s.codec) (pages_of s.lines) page [] d (omega (arith, length-pages_of s.lines)) ∙ ap (row_of s.codec) (get_or-tabulate [] (page_of s.lines) (length s.lines / 64) page (omega arith)))))
+
+-- a sound page has slots of a known length, in a block of a known order
+pub has_target : (codec : Codec) (shape : Shape) (own : List ℕ) → IsSoundPage codec shape own → HasTarget shape
+has_target codec shapes.Zero own sound = tt
+has_target codec shapes.Raw own sound = tt
+has_target codec (shapes.Packed order target) own sound = sound.holds.is_target
+
+pub known_order : (codec : Codec) (shape : Shape) (own : List ℕ) (sizes : List (Option ℕ)) → IsSoundPage codec shape own → IfSome (order_of (lying shape sizes)) (λ k. k ≤ 3)
+known_order codec shapes.Zero own sizes sound = tt
+known_order codec shapes.Raw own sizes sound = omega arith
+known_order codec (shapes.Packed order target) own sizes sound = omega (arith, sound.holds.order_in)
+
+-- no page yet
+pub no_totals : (f : ℕ → SizeRow) → totals_of (tabulate f 0) ≡ no_pages
+no_totals f = unfold tabulate in refl

@@ -7,7 +7,7 @@ use Rattle.page_plan.specs.declared.least.PagePlan.{PagePlan}
 use Rattle.page_plan.specs.declared.least.PagePlan.TheVariants.{Zero, Packed, Raw}
 use Rattle.page_plan.specs.PagePlan.{plan_of}
 use Rattle.page_plan.specs.Sizes.{order_of}
-use Rattle.page_store.specs.declared.desc.Desc.{Desc}
+use Rattle.page_slots.specs.declared.desc.Desc.{Desc}
 use Rattle.page_plan.specs.Pages.{page_of, plans_of}
 use Rattle.page_store.specs.PageBlocks.{IsAtPlan, IsFreeFor}
 use Rattle.page_store.specs.Store.{Store, Sizing}

@@ -1,6 +1,9 @@
 pub mod PageBlocks
 pub mod BlockChanges
+pub mod Rooms
 pub mod Store
 pub mod Crowds
+pub mod Rows
+pub mod Lays
 pub mod Calls
 pub mod Contents

@@ -5,14 +5,9 @@ use Rattle.buddy_frames.specs.Units.{Place, place_at, past, in_use, IsPlace, IsU
 use Rattle.page_plan.specs.declared.least.PagePlan.{PagePlan}
 use Rattle.page_plan.specs.declared.least.PagePlan.TheVariants as plan
 use Rattle.page_plan.specs.Sizes.{order_of}
-use Rattle.page_store.specs.declared.desc.Desc.{Desc}
-use Rattle.page_store.specs.declared.desc.Desc.TheVariants.{Zero, Packed, Raw}
-
--- the block of a page
-abbrev pub block_of : Desc → Option Place
-block_of Zero = None
-block_of (Packed block target) = Some block
-block_of (Raw block) = Some block
+use Rattle.page_slots.specs.declared.desc.Desc.{Desc}
+use Rattle.page_slots.specs.declared.desc.Desc.TheVariants.{Zero, Packed, Raw}
+use Rattle.page_slots.specs.Descs.{block_of}
 
 -- the block of the page of a number
 abbrev pub block_at : List Desc → ℕ → Option Place

@@ -1,14 +1,17 @@
 // The blocks of all pages.
-ghost use Rattle.std.specs.Prelude.{◌≡◌, ◌≤◌, ◌<◌, ◌*◌, ℕ, length, replicate, IfOk, IfErr, OnOk, OnErr};
+ghost use Rattle.std.specs.Prelude.{◌≡◌, ◌≤◌, ◌<◌, ◌*◌, ℕ, length, replicate, IfOk, IfErr, IsTrue, ◌↔◌, OnOk, OnErr};
 ghost use Rattle.buddy_frames.specs.Units.{place_at, IsFreeBlock, IsCount};
-ghost use Rattle.page_store.specs.PageBlocks.{ComesToPlan, LacksRoom, AreSound};
-ghost use Rattle.page_store.specs.declared.desc.Desc.TheVariants as desc;
+ghost use Rattle.page_store.specs.PageBlocks.{ComesToPlan, IsAtPlan, LacksRoom, AreSound};
+ghost use Rattle.page_store.specs.Rooms.{held_of};
+ghost use Rattle.page_store.specs.Store.{desc_at};
+ghost use Rattle.page_slots.specs.declared.desc.Desc.TheVariants as desc;
 
-use crate::desc::Desc;
-use crate::page_block::settle;
+use crate::page_block::{is_at, settle};
+use crate::room::Held;
 use buddy_frames::Frames;
 use hier_types::NoMemory;
 use page_plan::PagePlan;
+use page_slots::Desc;
 use std::alloc::Global;
 use std::marker::Model;
 use std::mem;
@@ -67,7 +70,7 @@ impl Blocks {
         ensures err { IfErr result (λ order. LacksRoom self.old.descriptors self.old.used page plan order) }
         ensures unchanged { OnErr result (self.new ≡ self.old) }
     {
-        if self.descriptors[page].is_at(plan) {
+        if is_at(&self.descriptors[page], plan) {
             return Ok(());
         }
         let held = mem::replace(&mut self.descriptors[page], Desc::Zero);
@@ -81,6 +84,30 @@ impl Blocks {
                 Err(no_place.order)
             }
         }
+    }
+
+    /// How a page is kept.
+    pub(crate) fn desc(&self, page: usize) -> &Desc
+        requires { page < length self.now.descriptors }
+        ensures { result.now ≡ desc_at self.now.descriptors page }
+    {
+        &self.descriptors[page]
+    }
+
+    /// The shape of a page, and where its block begins.
+    pub(crate) fn held(&self, page: usize) -> Held
+        requires { page < length self.now.descriptors }
+        ensures { result ≡ held_of (desc_at self.now.descriptors page) }
+    {
+        Held::of(self.desc(page))
+    }
+
+    /// Whether a page is kept as the plan says.
+    pub(crate) fn is_at(&self, page: usize, plan: PagePlan) -> bool
+        requires { page < length self.now.descriptors }
+        ensures { IsTrue result ↔ IsAtPlan plan (desc_at self.now.descriptors page) }
+    {
+        is_at(self.desc(page), plan)
     }
 
     /// The number of free blocks of an order.

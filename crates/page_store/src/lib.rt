@@ -4,10 +4,10 @@
 #![tactic(auto)]
 
 mod blocks;
-mod desc;
 mod page_block;
 mod page_lines;
 mod pages;
+mod room;
 #[cfg(test)]
 mod tests;
 mod totals;

@@ -1,13 +1,33 @@
 // One page's block, as its plan changes.
-ghost use Rattle.std.specs.Prelude.{◌≡◌, ◌≤◌, ◌<◌, Some, None, IfOk, IfErr, IfSome, OnErr};
+ghost use Rattle.std.specs.Prelude.{IsTrue, ◌↔◌, ◌≡◌, ◌≤◌, ◌<◌, Some, None, IfOk, IfErr, IfSome, OnErr};
 ghost use Rattle.buddy_frames.specs.Units.{IsUsedPlace};
 ghost use Rattle.page_plan.specs.Sizes.{order_of};
-ghost use Rattle.page_store.specs.PageBlocks.{block_of, IsAtPlan, Outgrows};
+ghost use Rattle.page_slots.specs.Descs.{block_of};
+ghost use Rattle.page_store.specs.PageBlocks.{IsAtPlan, Outgrows};
 ghost use Rattle.page_store.specs.BlockChanges.{HasNoneBut, ChangesBlock, GetsBlock};
 
-use crate::desc::Desc;
 use buddy_frames::{Block, Frames};
 use page_plan::PagePlan;
+use page_slots::Desc;
+
+/// Whether a page that is kept so is at the plan.
+pub(crate) fn is_at(desc: &Desc, plan: PagePlan) -> bool
+    ensures { IsTrue result ↔ IsAtPlan plan desc.now }
+{
+    match (desc, plan) {
+        (Desc::Zero, PagePlan::Zero) => true,
+        (
+            Desc::Packed { block, target },
+            PagePlan::Packed {
+                order,
+                target: planned,
+                ..
+            },
+        ) => block.order() == order && *target == planned,
+        (Desc::Raw { block }, PagePlan::Raw) => block.order() == 3,
+        _ => false,
+    }
+}
 
 /// A page that found no block of an order, as it was kept before and is kept still.
 #[derive(Drop)]

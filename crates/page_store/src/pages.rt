@@ -1,65 +1,93 @@
 // The memory as a layer.
-ghost use Rattle.std.specs.Prelude.{◌≡◌, ◌≤◌, ◌<◌, ◌*◌, ◌/◌, ℕ, length, replicate, IfOk};
+ghost use Rattle.std.specs.Prelude.{◌≡◌, ◌≢◌, ◌≤◌, ◌<◌, ◌*◌, ◌/◌, ◌%◌, ◌+◌, ◌⊎◌, ℕ, List, [], length, replicate, slice_set, IsTrue, IsFalse, IfOk, IfErr, IfSome, OnOk, OnErr, MatchResult};
 ghost use Rattle.buddy_frames.specs.Units.{place_at, IsFreeBlock, IsCount};
-ghost use Rattle.hier_types.specs.Lines.{zero_line};
+ghost use Rattle.hier_types.specs.Lines.{AreLines};
+ghost use Rattle.hier_types.specs.Settings.{IsWithin as IsWithinRange};
 ghost use Rattle.hier_types.specs.declared.faults.NoSpace.{NoSpace as Refusal};
+ghost use Rattle.page_plan.specs.KeptSizes.{kept_sizes};
+ghost use Rattle.page_plan.specs.PagePlan.{plan_of};
+ghost use Rattle.page_plan.specs.Pages.{page_of};
+ghost use Rattle.page_slots.specs.Descs.{size_of};
 ghost use Rattle.page_store.specs.Contents.{SureWritesAreOne};
+ghost use Rattle.page_store.specs.Lays.{noted};
+ghost use Rattle.page_store.specs.PageBlocks.{HasRoom, LacksRoom};
+ghost use Rattle.page_store.specs.Rooms.{bytes_of, IsWithin, IsInPage, changed, with_change};
 
 use crate::blocks::Blocks;
-use crate::page_lines::{lines_in, put_page};
-use crate::totals::total;
+use crate::page_lines::lines_in;
+use crate::room::{Change, Held, relay};
+use crate::totals::lying;
 use hier_types::{
     Codec, Geometry, Layer, Line, LineNo, NoMemory, NoSpace, PAGE_LINES, PageCounts, PageNo, Totals,
 };
+use meta_cache::MetaCache;
 use page_plan::PageSizes;
+use page_slots::{PutResult, Shape};
+use size_ledger::{Ledger, SizeRow};
 use std::alloc::Global;
 use std::marker::Model;
 
-/// A memory of 1 to 65,536 pages of 64 lines, in frames of 4,096 bytes. Each page that is not zero has a block of the order
-/// of its plan, which is the least layout under the codec. The lines themselves are kept plain, and beside each one byte for
-/// what it takes in a slot. No call but `new` takes memory. A call that changes lines is refused only where no place of the frames is
-/// free for the page that it changes, and never where there are at least as many frames as pages.
+/// A memory of 1 to 65,536 pages of 64 lines, in frames of 4,096 bytes. Each page that is not zero has its bytes in its
+/// block: its metadata, slots and exceptions, or its lines one after another. Beside them stands one byte a line for what
+/// it takes in a slot, and a cache has the metadata of the pages that were looked up last. No call but `new` takes memory.
+/// A call that changes lines is refused only where every other page is at its plan, which is the least layout under the
+/// codec, and no place of the frames is free for the page that it changes; never where there are at least as many frames
+/// as pages.
 #[derive(Drop)]
 pub struct Pages {
     codec: Codec,
-    lines: Vec<Line>,
-    sizes: Vec<PageSizes>,
+    memory: Vec<u8>,
     blocks: Blocks,
-    meta: u32,
+    sizes: Vec<PageSizes>,
+    meta: MetaCache,
     counts: PageCounts,
     stops: u64,
 }
 
 impl Model for Pages {
-    ghost use Rattle.page_store.specs.Store.{Store, IsKept};
+    ghost use Rattle.page_store.specs.Store.{Store, IsKept, store_in};
 
     ghost Value = { Store };
 
-    ghost view = { λ p. record { codec = p.codec; lines = p.lines.items; descriptors = p.blocks.descriptors; used = p.blocks.used; meta = p.meta; counts = p.counts; stops = p.stops } };
+    ghost view = { λ p. store_in p.codec p.memory.items p.blocks.descriptors p.blocks.used p.meta p.counts p.stops };
 
-    ghost invariant = { λ p. IsKept (record { codec = p.codec; lines = p.lines.items; descriptors = p.blocks.descriptors; used = p.blocks.used; meta = p.meta; counts = p.counts; stops = p.stops }) p.sizes.items };
+    ghost invariant = { λ p. IsKept (store_in p.codec p.memory.items p.blocks.descriptors p.blocks.used p.meta p.counts p.stops) p.memory.items p.sizes.items };
 }
 
 /// So many copies of a value.
-fn copies<T: Copy>(alloc: Global, count: u32, value: T) -> Result<Vec<T>, NoMemory>
+fn copies<T: Copy>(alloc: Global, count: usize, value: T) -> Result<Vec<T>, NoMemory>
     ensures { IfOk result (λ made. made.items ≡ replicate count value) }
 {
-    let mut made = Vec::with_capacity(alloc, count as usize)?;
+    let mut made = Vec::with_capacity(alloc, count)?;
     for done in 0..count {
         made.push(value)?;
     }
     Ok(made)
 }
 
+/// Brings the entry of a page up to date, once its bytes have changed.
+fn note(meta: &mut MetaCache, page: PageNo, held: Held, memory: &[u8])
+    requires { IsWithin memory.now held }
+    ensures { meta.new ≡ noted meta.old page.0 held.shape (bytes_of memory.now held) }
+{
+    match held.shape {
+        Shape::Packed { .. } => meta.renew(page, &held.chunk(memory)),
+        _ => meta.forget(page),
+    }
+}
+
 impl Pages {
     ghost use Rattle.hier_types.specs.Causes.{raised};
-    ghost use Rattle.page_store.specs.Store.{IsSound, HasZero, fresh};
-    ghost use Rattle.page_store.specs.Calls.{PlacesPage, StoreWrite, Tidies};
-    ghost use Rattle.page_store.specs.Crowds.{Crowded};
     ghost use Rattle.page_plan.specs.Sizes.{sizes_of_memory};
+    ghost use Rattle.page_store.specs.Calls.{HasNoPlace, Places, PlacesPage, Refused, PutsIn, StaysZero, StoreRead, StoreWrite, Tidies, looked_up};
+    ghost use Rattle.page_store.specs.Crowds.{Crowded};
+    ghost use Rattle.page_store.specs.Lays.{BringsToPlan, KeepsLines, Lays, OthersAreAtPlan, TidiesOthers};
+    ghost use Rattle.page_store.specs.Rows.{row_at, totals_at};
+    ghost use Rattle.size_ledger.specs.Ranges.{HasKnownOrder};
+    ghost use Rattle.page_store.specs.Store.{AreAtPlan, IsSound, HasZero, fresh};
 
-    /// The pages of the span, all of them zero, and 1 to 65,536 frames, of which none is in use. `meta` is the number of pages
-    /// whose metadata a cache beside the memory is to keep; while lines are plain there is none. All memory is taken here.
+    /// The pages of the span, all of them zero, 1 to 65,536 frames, of which none is in use, and a cache for the metadata of
+    /// `meta` pages, 1 to 1,024. All memory is taken here.
     pub fn new(
         alloc: Global,
         geometry: Geometry,
@@ -71,22 +99,134 @@ impl Pages {
         requires most_pages { geometry.pages ≤ 65536 }
         requires some_frames { 1 ≤ frames }
         requires most_frames { frames ≤ 65536 }
+        requires meta { IsWithinRange 1 1024 meta }
         ensures { IfOk result (λ made. made ≡ fresh (record { codec = codec; frames = frames; meta = meta }) geometry.pages) }
     {
         let pages = geometry.pages;
-        let zero_line: Line = [0; 64];
-        let lines = copies(alloc, PAGE_LINES * pages, zero_line)?;
-        let sizes = copies(alloc, pages, PageSizes::of_zeros())?;
+        let memory = copies(alloc, 4096 * frames as usize, 0)?;
         let blocks = Blocks::new(alloc, pages, frames)?;
+        let sizes = copies(alloc, pages as usize, PageSizes::of_zeros())?;
+        let meta = MetaCache::new(alloc, meta)?;
         Ok(Pages {
             codec,
-            lines,
-            sizes,
+            memory,
             blocks,
+            sizes,
             meta,
             counts: PageCounts::default(),
             stops: 0,
         })
+    }
+
+    /// Looks the page of a line up in the metadata cache, where it has metadata.
+    fn look(&mut self, line: LineNo)
+        requires { line.0 < length self.old.lines }
+        ensures { self.new ≡ looked_up self.old (line.0 / 64) }
+    {
+        let page = PageNo(line.0 / PAGE_LINES);
+        let held = self.blocks.held(page.0 as usize);
+        let Shape::Packed { .. } = held.shape else {
+            return;
+        };
+        let chunk = held.chunk(&self.memory);
+        if self.meta.look(page, &chunk) {
+            self.counts.meta_hits = self.counts.meta_hits.saturating_add(1);
+        } else {
+            self.counts.meta_misses = self.counts.meta_misses.saturating_add(1);
+        }
+    }
+
+    /// Puts a line where it belongs in its page's block. False, with nothing changed, where it has no place there.
+    fn put(&mut self, line: LineNo, from: &Line) -> bool
+        requires { line.0 < length self.old.lines }
+        ensures puts { IsTrue result → StaysZero self.old (line.0 / 64) from.now self.new ⊎ PutsIn self.old (line.0 / 64) (line.0 % 64) from.now self.new }
+        ensures lines { IsTrue result → self.new.lines ≡ slice_set self.old.lines line.0 from.now }
+        ensures full { IsFalse result → HasNoPlace self.old (line.0 / 64) (line.0 % 64) from.now }
+        ensures unchanged { IsFalse result → self.new ≡ self.old }
+    {
+        let page = PageNo(line.0 / PAGE_LINES);
+        let index = page.0 as usize;
+        let offset = (line.0 % PAGE_LINES) as u8;
+        let held = self.blocks.held(index);
+        if held.shape == Shape::Zero {
+            return *from == [0; 64];
+        }
+        if held.put(self.codec, &mut self.memory, offset, from) == PutResult::Overflow {
+            return false;
+        }
+        self.sizes[index].set(self.codec, offset as usize, from);
+        note(&mut self.meta, page, held, &self.memory);
+        true
+    }
+
+    /// Lays a page anew at its plan, with what is new of it. The error is the plan's order, where no place of it is free
+    /// for the page; nothing has changed then, and no line was read.
+    fn lay(&mut self, page: usize, sizes: PageSizes, change: &Change) -> Result<(), u8>
+        requires page_in { page < length self.old.descriptors }
+        requires in_page { IsInPage change.now }
+        requires lines { AreLines (changed change.now (page_of self.old.lines page)) }
+        requires whole { length (changed change.now (page_of self.old.lines page)) ≡ 64 }
+        requires sized { sizes ≡ kept_sizes self.old.codec (changed change.now (page_of self.old.lines page)) }
+        ensures ok { OnOk result (Lays self.old page (with_change self.old.lines page change.now) self.new) }
+        ensures room { OnOk result (HasRoom self.old.descriptors self.old.used page (plan_of self.old.codec (page_of (with_change self.old.lines page change.now) page))) }
+        ensures frames { length self.new.used ≡ length self.old.used }
+        ensures err { IfErr result (LacksRoom self.old.descriptors self.old.used page (plan_of self.old.codec (page_of (with_change self.old.lines page change.now) page))) }
+        ensures unchanged { OnErr result (self.new ≡ self.old) }
+    {
+        let old = self.blocks.held(page);
+        self.blocks.settle(page, sizes.plan())?;
+        let new = self.blocks.held(page);
+        relay(self.codec, old, new, change, &mut self.memory);
+        self.sizes[page] = sizes;
+        note(&mut self.meta, PageNo(page as u32), new, &self.memory);
+        Ok(())
+    }
+
+    /// Brings one page to its plan. It always has room in its own block.
+    fn tidy_page(&mut self, page: usize)
+        requires { page < length self.old.descriptors }
+        ensures brings { BringsToPlan self.old page self.new }
+        ensures keeps { KeepsLines self.old self.new }
+    {
+        let sizes = self.sizes[page];
+        if self.blocks.is_at(page, sizes.plan()) {
+            return;
+        }
+        self.lay(page, sizes, &Change::Nothing).unwrap();
+    }
+
+    /// Brings every page but one to its plan, in rising order.
+    fn tidy_others(&mut self, but: usize)
+        ensures tidied { TidiesOthers self.old but self.new }
+        ensures keeps { KeepsLines self.old self.new }
+        ensures at_plan { OthersAreAtPlan self.old but self.new }
+    {
+        for page in 0..self.sizes.len() {
+            if page != but {
+                self.tidy_page(page);
+            }
+        }
+    }
+
+    /// Lays a page anew, and where no place is free for it tidies the others and asks once more.
+    fn rewrite(&mut self, page: PageNo, sizes: PageSizes, change: &Change) -> Result<(), NoSpace>
+        requires page_in { page.0 < length self.old.descriptors }
+        requires in_page { IsInPage change.now }
+        requires lines { AreLines (changed change.now (page_of self.old.lines page.0)) }
+        requires whole { length (changed change.now (page_of self.old.lines page.0)) ≡ 64 }
+        requires sized { sizes ≡ kept_sizes self.old.codec (changed change.now (page_of self.old.lines page.0)) }
+        ensures { MatchResult result (λ _. Places self.old page.0 (with_change self.old.lines page.0 change.now) self.new)
+            (λ refusal. Refused self.old self.old page.0 (with_change self.old.lines page.0 change.now) (Unit {0}) refusal self.new) }
+    {
+        let index = page.0 as usize;
+        if self.lay(index, sizes, change).is_ok() {
+            return Ok(());
+        }
+        self.tidy_others(index);
+        match self.lay(index, sizes, change) {
+            Ok(()) => Ok(()),
+            Err(order) => Err(self.refuse(page, order)),
+        }
     }
 
     /// Lays a page that is zero at the plan of these bytes, which are new. It counts as no write. The refusal is that of a
@@ -95,31 +235,29 @@ impl Pages {
         requires { HasZero self.old page.0 }
         ensures { PlacesPage self.old page.0 bytes.now result self.new }
     {
-        let index = page.0 as usize;
         let lines = lines_in(bytes);
         let sizes = PageSizes::of(self.codec, &lines);
-        if let Err(order) = self.blocks.settle(index, sizes.plan()) {
-            return Err(self.refuse(page, order));
-        }
-        put_page(&mut self.lines, index, &lines);
-        self.sizes[index] = sizes;
-        Ok(())
+        self.rewrite(page, sizes, &Change::AllLines { lines })
     }
 
-    /// Changes one line, and brings its page to the new plan. Only the line's own size is asked for anew.
+    /// Changes one line: in its place, or with its page laid anew.
     fn change(&mut self, line: LineNo, from: &Line) -> Result<(), NoSpace>
         requires { line.0 < length self.old.lines }
         ensures { StoreWrite self.old line.0 from.now result self.new }
     {
         let page = PageNo(line.0 / PAGE_LINES);
         let index = page.0 as usize;
-        let mut sizes = self.sizes[index];
-        sizes.set(self.codec, (line.0 % PAGE_LINES) as usize, from);
-        if let Err(order) = self.blocks.settle(index, sizes.plan()) {
-            return Err(self.refuse(page, order));
+        let offset = (line.0 % PAGE_LINES) as u8;
+        self.look(line);
+        if !self.put(line, from) {
+            let mut sizes = self.sizes[index];
+            sizes.set(self.codec, offset as usize, from);
+            let change = Change::OneLine {
+                line: offset,
+                bytes: *from,
+            };
+            self.rewrite(page, sizes, &change)?;
         }
-        self.lines[line.0 as usize] = *from;
-        self.sizes[index] = sizes;
         self.counts.writes = self.counts.writes.saturating_add(1);
         Ok(())
     }
@@ -128,17 +266,19 @@ impl Pages {
     fn refuse(&mut self, page: PageNo, order: u8) -> NoSpace
         ensures refusal { result ≡ record { page = page; order = order } }
         ensures counted { self.new ≡ record self.old { stops = raised self.old.stops } }
+        ensures sound { IsSound self.old }
     {
         self.stops = self.stops.saturating_add(1);
         NoSpace { page, order }
     }
 
-    /// Brings every page to its plan. While lines are plain each page is there after every call, and nothing is left to do.
+    /// Brings every page to its plan, in rising order. It is never refused: the plan of a page that has a block never asks
+    /// for a larger one.
     pub fn tidy(&mut self)
         ensures { Tidies self.old self.new }
     {
-        // What is kept of the pages tells that each is at its plan.
-        let _ = &self.blocks;
+        let past_the_last = self.sizes.len();
+        self.tidy_others(past_the_last);
     }
 
     /// The number of free blocks of an order, 0 to 3: those of `2 ^ order` units of 512 bytes. It is 0 for a greater order,
@@ -150,11 +290,28 @@ impl Pages {
         self.blocks.free(order)
     }
 
-    /// What the pages take at their plans, summed anew from how each is kept and from the sizes of its lines.
-    pub fn totals(&self) -> Totals
-        ensures { result ≡ sizes_of_memory self.now.codec self.now.lines }
+    /// What a page takes as it lies.
+    fn row(&self, page: usize) -> SizeRow
+        requires { page < length self.now.descriptors }
+        ensures value { result ≡ row_at self.now page }
+        ensures known { HasKnownOrder result }
     {
-        total(self.codec, &self.sizes)
+        let sizes = &self.sizes[page];
+        let held = self.blocks.held(page);
+        sizes.row(self.codec, lying(held.shape, sizes))
+    }
+
+    /// What the pages take as they lie, summed anew from how each is kept and from the sizes of its lines. Where each is
+    /// at its plan, that is what their lines alone tell.
+    pub fn totals(&self) -> Totals
+        ensures lie { result ≡ totals_at self.now }
+        ensures at_plan { AreAtPlan self.now → result ≡ sizes_of_memory self.now.codec self.now.lines }
+    {
+        let mut ledger = Ledger::new();
+        for page in 0..self.sizes.len() {
+            ledger.add_page(page, self.row(page));
+        }
+        ledger.totals()
     }
 
     /// The calls that were counted. Between any two calls the memory is sound.
@@ -181,12 +338,12 @@ impl Layer for Pages {
     ghost did_write = { StoreWrite };
 
     fn lines(&self) -> u32 {
-        self.lines.len() as u32
+        PAGE_LINES * self.sizes.len() as u32
     }
 
     fn read(&mut self, line: LineNo, into: &mut Line) -> Result<(), NoSpace> {
-        let bytes = self.lines[line.0 as usize];
-        *into = bytes;
+        self.look(line);
+        self.view(line, into);
         self.counts.reads = self.counts.reads.saturating_add(1);
         Ok(())
     }
@@ -196,7 +353,8 @@ impl Layer for Pages {
     }
 
     fn view(&self, line: LineNo, into: &mut Line) {
-        *into = self.lines[line.0 as usize];
+        let held = self.blocks.held((line.0 / PAGE_LINES) as usize);
+        held.line(&self.memory, (line.0 % PAGE_LINES) as u8, into);
     }
 }
 

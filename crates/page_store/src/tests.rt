@@ -79,6 +79,40 @@ fn nine_pages_in_one_frame(rt: HostRuntime) {
     assert_eq!(rt; (pages.counts().reads, pages.counts().writes), (1, 9));
 }
 
+/// A page that was emptied in its place keeps its block until another page wants room.
+#[test]
+fn an_emptied_page_makes_room(rt: HostRuntime) {
+    let Ok(mut pages) = store(rt.alloc(), 9, 1) else {
+        panic!(rt; "no memory");
+    };
+    for page in 0..8u32 {
+        assert!(rt; fill(&mut pages, page, 1, &shortened()));
+    }
+    assert!(rt; fill(&mut pages, 3, 1, &[0; 64]));
+    assert_eq!(rt; (pages.free(0), pages.totals().zero), (0, 1));
+    assert!(rt; fill(&mut pages, 8, 1, &shortened()));
+    let mut line = [0; 64];
+    pages.view(LineNo(512), &mut line);
+    assert_eq!(rt; line, shortened());
+}
+
+/// Lines that no slot holds fill the chunks of the least block, and the fourth one has none. A page of zeros is not looked up.
+#[test]
+fn pages_are_looked_up_before_they_change(rt: HostRuntime) {
+    for (count, hits, misses, blocks) in [(1, 0, 0, 512), (2, 0, 1, 512), (4, 2, 1, 1024)] {
+        let Ok(mut pages) = store(rt.alloc(), 1, 1) else {
+            panic!(rt; "no memory");
+        };
+        assert!(rt; fill(&mut pages, 0, count, &plain()));
+        let counts = pages.counts();
+        assert_eq!(rt; (counts.meta_hits, counts.meta_misses), (hits, misses));
+        assert_eq!(rt; pages.totals().blocks, blocks);
+        let mut line = [0; 64];
+        pages.view(LineNo(0), &mut line);
+        assert_eq!(rt; line, plain());
+    }
+}
+
 /// A page of zeros and some lines that no slot holds, by the number of these.
 #[test]
 fn plans_by_plain_lines(rt: HostRuntime) {

@@ -1,31 +1,28 @@
-// What the pages take, summed anew.
-ghost use Rattle.std.specs.Prelude.{◌≡◌, ◌≤◌, ◌*◌, ℕ, List, length};
+// The plan that a page keeps to.
+ghost use Rattle.std.specs.Prelude.{◌≡◌, ℕ, List};
 ghost use Rattle.hier_types.specs.Lines.{AreLines};
+ghost use Rattle.hier_types.specs.declared.settings.Codec.{Codec as AnyCodec};
+ghost use Rattle.line_codec.specs.Layout.{stored_sizes};
 ghost use Rattle.page_plan.specs.KeptSizes.{kept_sizes};
-ghost use Rattle.page_plan.specs.Sizes.{row_of, sizes_of_memory};
-ghost use Rattle.page_store.specs.Store.{AreSizes};
-ghost use Rattle.size_ledger.specs.Ranges.{HasKnownOrder};
+ghost use Rattle.page_store.specs.Rooms.{HasTarget};
+ghost use Rattle.page_store.specs.Rows.{lying};
 
-use hier_types::{Codec, Totals};
-use page_plan::PageSizes;
-use size_ledger::{Ledger, SizeRow};
+use page_plan::{PagePlan, PageSizes};
+use page_slots::Shape;
 
-/// What a page takes at its plan, whose lines have these sizes.
-fn row_of(codec: Codec, sizes: &PageSizes) -> SizeRow
-    ensures value { (lines : List (List ℕ)) → AreLines lines → kept_sizes codec lines ≡ sizes.now → result ≡ row_of codec lines }
-    ensures known { HasKnownOrder result }
+/// The plan that a page keeps to whose lines have these sizes, whether it is the least one or not.
+pub(crate) fn lying(shape: Shape, sizes: &PageSizes) -> PagePlan
+    requires { HasTarget shape }
+    ensures { (codec : AnyCodec) (lines : List (List ℕ)) → AreLines lines → kept_sizes codec lines ≡ sizes.now
+        → result ≡ lying shape (stored_sizes codec lines) }
 {
-    sizes.row(codec, sizes.plan())
-}
-
-/// What pages take at their plans, whose lines have these sizes.
-pub(crate) fn total(codec: Codec, sizes: &[PageSizes]) -> Totals
-    requires { length sizes.now ≤ 65536 }
-    ensures { (lines : List (List ℕ)) → AreLines lines → length lines ≡ 64 * length sizes.now → AreSizes codec lines sizes.now → result ≡ sizes_of_memory codec lines }
-{
-    let mut ledger = Ledger::new();
-    for page in 0..sizes.len() {
-        ledger.add_page(page, row_of(codec, &sizes[page]));
+    match shape {
+        Shape::Zero => PagePlan::Zero,
+        Shape::Raw => PagePlan::Raw,
+        Shape::Packed { order, target } => PagePlan::Packed {
+            order,
+            target,
+            exceptions: sizes.exceptions(target),
+        },
     }
-    ledger.totals()
 }

@@ -1,5 +1,5 @@
 use Rattle.std.proofs.Common.{◌≡◌, replicate}
-use Rattle.page_store.specs.declared.desc.Desc.TheVariants as desc
+use Rattle.page_slots.specs.declared.desc.Desc.TheVariants as desc
 use Rattle.page_store.proofs.blocks.zero_pages.Given as goal
 
 abbrev pub invariant-loop-count : goal.invariant-loop-count

@@ -1,5 +1,5 @@
 use Rattle.std.proofs.Common.{◌≡◌, ◌<◌, length, refl, set}
-use Rattle.page_store.specs.declared.desc.Desc.{Desc}
+use Rattle.page_slots.specs.declared.desc.Desc.{Desc}
 use Rattle.std.proofs.lemmas.Option.{slice_get_read}
 use Rattle.page_store.proofs.BlockLemmas.{IsTaken, stays_at, taken_at, taken_live, taken_comes, taken_sound, put_back, taken_lacks}
 use Rattle.page_store.proofs.blocks.Blocks.settle.Goals as goal
