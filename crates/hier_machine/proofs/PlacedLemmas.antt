@@ -6,7 +6,7 @@ use Rattle.hier_types.specs.Lines.{zero_line}
 use Rattle.hier_types.specs.Tabulate.{tabulate}
 use Rattle.hier_types.proofs.TableLemmas.{length-tabulate, part-tabulate, tabulate-add, tabulate-by_index, tabulate-none, tabulate-same}
 use Rattle.elf_image.specs.Image.{Loaded, byte_at, page_of}
-use Rattle.page_store.specs.declared.desc.Desc.TheVariants.{Zero}
+use Rattle.page_slots.specs.declared.desc.Desc.TheVariants.{Zero}
 use Rattle.hier_types.specs.declared.faults.NoSpace.{NoSpace}
 use Rattle.page_plan.specs.PagePlan.{plan_of}
 use Rattle.page_plan.specs.Pages as pages

@@ -9,13 +9,13 @@ const FOLD_OF_SEVEN: [u8; 4] = [0x74, 0xd0, 0xb1, 0x55];
 
 /// What is told of the program that exits with 3, before the turns of the mover and the cleaner, and after them.
 const BEFORE_TURNS: &str =
-    "end exit 3\nretired 3\nl1 2 1 0\nl2 1 0 0 0\npages 1 0\nmeta 0 0\nturns ";
+    "end exit 3\nretired 3\nl1 2 1 0\nl2 1 0 0 0\npages 1 0\nmeta 0 1\nturns ";
 
 const AFTER_TURNS: &str =
     "\ntidy 0\nsettle done\nclasses 1 0 0 0\nexceptions 1\nencoded 190\nblocks 512\nratio 800\n";
 
 const JSON: &[u8] =
-    b"{\"blocks\":512,\"classes\":[1,0,0,0],\"encoded\":190,\"end\":\"exit 3\",\"exceptions\":1,\"l1\":[2,1,0],\"l2\":[1,0,0,0],\"meta\":[0,0],\"pages\":[1,0],\"ratio\":800,\"retired\":3,\"settle\":\"done\",\"tidy\":0,\"turns\":[0,0]}\n";
+    b"{\"blocks\":512,\"classes\":[1,0,0,0],\"encoded\":190,\"end\":\"exit 3\",\"exceptions\":1,\"l1\":[2,1,0],\"l2\":[1,0,0,0],\"meta\":[0,1],\"pages\":[1,0],\"ratio\":800,\"retired\":3,\"settle\":\"done\",\"tidy\":0,\"turns\":[0,0]}\n";
 
 /// The report with these turns.
 fn report_with(alloc: Global, turns: &str) -> Result<String, Fail> {

@@ -18,7 +18,7 @@ const COPY_A_LINE: [u32; 10] = [
 
 /// What is told of the program that writes `abc` twice, where its second write fails.
 const NOTE_OF_FAILED_WRITE: &str =
-    "end output failed\nretired 13\nl1 18 3 0\nl2 3 0 0 0\npages 3 0\nmeta 0 0\nturns 1 0\ntidy 0\n\
+    "end output failed\nretired 13\nl1 18 3 0\nl2 3 0 0 0\npages 3 0\nmeta 1 1\nturns 1 0\ntidy 0\n\
 settle done\nclasses 2 0 0 0\nexceptions 4\nencoded 504\nblocks 1024\nratio 800\n";
 
 #[test]

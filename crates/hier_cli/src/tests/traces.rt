@@ -19,7 +19,7 @@ pub(super) const OUT_AND_BACK: &str =
     "S 10000 4 1\nL 11000 4\nL 12000 4\nL 13000 4\nL 10000 4\nL 10040 4\n";
 
 const NOTE_OUT_AND_BACK: &str =
-    "end done\nretired 6\nl1 0 6 1\nl2 6 0 1 1\npages 6 1\nmeta 0 0\nturns 0 0\ntidy 0\n\
+    "end done\nretired 6\nl1 0 6 1\nl2 6 0 1 1\npages 6 1\nmeta 1 1\nturns 0 0\ntidy 0\n\
 settle done\nclasses 1 0 0 0\nexceptions 1\nencoded 190\nblocks 512\nratio 800\n";
 
 /// Caches of two lines and of one set, and no turn of the mover or the cleaner.
