@@ -103,7 +103,7 @@ impl Pages {
         ensures { IfOk result (λ made. made ≡ fresh (record { codec = codec; frames = frames; meta = meta }) geometry.pages) }
     {
         let pages = geometry.pages;
-        let memory = copies(alloc, 4096 * frames as usize, 0)?;
+        let memory = vec![in alloc; 0u8; 4096 * frames as usize]?;
         let blocks = Blocks::new(alloc, pages, frames)?;
         let sizes = copies(alloc, pages as usize, PageSizes::of_zeros())?;
         let meta = MetaCache::new(alloc, meta)?;
