@@ -125,6 +125,14 @@ impl Frames {
         kept
     }
 
+    /// How many frames there are, 1 to 65,536.
+    pub fn count(&self) -> u32
+        ensures count { result ≡ length self.now }
+        ensures most { result ≤ 65536 }
+    {
+        self.bytes.len() as u32
+    }
+
     /// The number of free blocks of an order, which is kept and not summed. It is 0 for an order above 3.
     pub fn free(&self, order: u8) -> u32
         ensures { IsCount (8 * length self.now) (λ unit. IsFreeBlock self.now (place_at order unit)) result }

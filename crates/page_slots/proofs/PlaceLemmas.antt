@@ -1,19 +1,20 @@
 -- The places of a page lie in its block, share no byte, and each line has one.
-use Rattle.std.proofs.Common.{◌≡◌, ◌≢◌, ℕ, ◌+◌, ◌-◌, ◌*◌, ◌<◌, ◌≤◌, ◌==◌, ◌⊎◌, true, false, nat_le, nat_lt, refl, ap, ◌∙◌, sym, subst, arith, inl, inr, List, length, Option, Some, None, IfSome}
+use Rattle.std.proofs.Common.{◌≡◌, ◌≢◌, ℕ, ◌+◌, ◌-◌, ◌*◌, ◌<◌, ◌≤◌, ◌==◌, ◌⊎◌, Bool, true, false, if◌then◌else◌, nat_le, nat_lt, refl, ap, ◌∙◌, sym, subst, arith, inl, inr, List, length, Option, Some, None, IfSome}
 use Rattle.std.proofs.lemmas.Bool.{cases_eq, cases_lt}
 use Rattle.std.proofs.lemmas.Bool.Decides.{nat_tests}
 use Rattle.std.proofs.lemmas.Option.{same_Some}
 use Rattle.hier_types.specs.declared.settings.Codec.{Codec}
-use Rattle.line_codec.specs.Slots.{stored}
+use Rattle.line_codec.specs.Slots.{fits}
 use Rattle.page_slots.specs.declared.desc.Shape.TheVariants.{Zero, Raw, Packed}
 use Rattle.page_slots.specs.declared.form.Form.{Form}
 use Rattle.page_slots.specs.declared.placing.PlaceKind.TheVariants as kinds
 use Rattle.page_slots.specs.declared.placing.PlaceRow.{PlaceRow}
 use Rattle.page_slots.specs.Forms.{IsForm, packed_form, room, slot_start}
-use Rattle.page_slots.specs.Lines.{meta, chunk_of, content_at, HasLines}
-use Rattle.page_slots.specs.Places.{block_row, chunk_row, slot_row, line_row, packed_place, raw_place, IsWithin, ShareNoByte, PlacesFit, PlacesAreApart, LinesHaveOnePlace}
+use Rattle.page_slots.specs.Descs.{line_of}
+use Rattle.page_slots.specs.Lines.{meta, chunk_of, content_at, HasLines, Stands}
+use Rattle.page_slots.specs.Places.{block_row, chunk_row, slot_row, line_row, packed_place, raw_place, IsWithin, ShareNoByte, PlacesFit, PlacesAreApart, LinesHaveOnePlace, PlacesSuitLines, UsesStored, kind_for}
 use Rattle.page_slots.proofs.FormLemmas.{apart_of, slot_low, slot_within, slots_apart, slot_in_block, packed_is_form}
-use Rattle.page_slots.proofs.LineLemmas.{exception_of, slot_uses}
+use Rattle.page_slots.proofs.LineLemmas.{exception_of, mark_le, slot_uses}
 
 -- a page has the lines that its bytes say
 abbrev HasOwn : Codec → Form → List ℕ → Type 0
@@ -247,7 +248,7 @@ one_place (Packed order target) bytes line index some line_in =
 
 -- what a line uses of its slot is its stored size
 abbrev Uses : Codec → (ℕ → List ℕ) → PlaceRow → Type 0
-Uses codec lines row = row.kind ≡ kinds.Slot → stored codec (lines row.line) ≡ Some row.used
+Uses codec lines row = UsesStored codec (lines row.line) row
 
 line_uses : (codec : Codec) (form : Form) (bytes : List ℕ) (i : ℕ) → i < 64 → HasOwn codec form bytes → Uses codec (content_at form bytes) (line_row form bytes i)
 line_uses codec form bytes i i_in has = elim (cases_lt (meta bytes i) 128) [
@@ -270,3 +271,43 @@ raw_uses codec lines bytes index (Some row) e = elim (raw_rows bytes index row (
   | inl block ↦ subst (Uses codec lines) (sym block.1) (λ is. absurd (cc))
   | inr line ↦ subst (Uses codec lines) (sym line.3) (λ is. absurd (cc))
 ]
+
+-- a line stands in its slot where it fits it, and else in a chunk
+kind_by : (codec : Codec) (form : Form) (bytes : List ℕ) (i : ℕ) (line : List ℕ) (fit : Bool) → Stands codec form bytes i line fit
+    → (line_row form bytes i).kind ≡ if fit then kinds.Slot else kinds.Exception
+kind_by codec form bytes i line true h = ap (λ (row : PlaceRow). row.kind) (in_slot_row form bytes i (omega (arith, h.marked, mark_le line)))
+kind_by codec form bytes i line false h = ap (λ (row : PlaceRow). row.kind) (exception_row form bytes i (omega (arith, h.marked)))
+
+line_kind : (codec : Codec) (form : Form) (bytes : List ℕ) (i : ℕ) → i < 64 → HasOwn codec form bytes
+    → (line_row form bytes i).kind ≡ kind_for codec form i (content_at form bytes i)
+line_kind codec form bytes i i_in has = kind_by codec form bytes i (content_at form bytes i) (fits codec (room form i) (content_at form bytes i)) (has.has i i_in).stands
+
+packed_kind : (codec : Codec) (form : Form) (bytes : List ℕ) (index : ℕ) (row : PlaceRow) → HasOwn codec form bytes → packed_place form bytes index ≡ Some row
+    → row.line < 64 → row.kind ≡ kind_for codec form row.line (content_at form bytes row.line)
+packed_kind codec form bytes index row has e line_in = elim (packed_rows form bytes index row e) [
+  | inl block ↦ absurd (omega (arith, line_in, ap (λ (r : PlaceRow). r.line) block.1))
+  | inr (inl metadata) ↦ absurd (omega (arith, line_in, ap (λ (r : PlaceRow). r.line) metadata.1))
+  | inr (inr line) ↦
+      let i = line.0 in
+      let same : row.line ≡ i = ap (λ (r : PlaceRow). r.line) line.3 ∙ line_row-line form bytes i in
+      ap (λ (r : PlaceRow). r.kind) line.3 ∙ line_kind codec form bytes i line.1 has ∙ ap (λ (j : ℕ). kind_for codec form j (content_at form bytes j)) (sym same)
+]
+
+raw_kind : (bytes : List ℕ) (index : ℕ) (row : PlaceRow) → raw_place bytes index ≡ Some row → row.line < 64 → row.kind ≡ kinds.Raw
+raw_kind bytes index row e line_in = elim (raw_rows bytes index row e) [
+  | inl block ↦ absurd (omega (arith, line_in, ap (λ (r : PlaceRow). r.line) block.1))
+  | inr line ↦ ap (λ (r : PlaceRow). r.kind) line.3
+]
+
+pub suits : PlacesSuitLines
+suits codec Zero bytes index row sound e line_in = absurd (cc)
+suits codec Raw bytes index row sound e line_in = record {
+  kind = raw_kind bytes index row e line_in;
+  used = raw_uses codec (line_of Raw bytes) bytes index (Some row) (sym e);
+}
+suits codec (Packed order target) bytes index row sound e line_in =
+    let form = packed_form order target in
+    record {
+      kind = packed_kind codec form bytes index row sound.lines e line_in;
+      used = packed_uses codec form bytes index (Some row) (sym e) sound.lines;
+    }

@@ -1,13 +1,14 @@
 -- The places of a page, by index: which bytes of the block each line has.
 use Rattle.std.specs.Prelude.{ℕ, ◌≡◌, ◌≢◌, ◌↔◌, ◌+◌, ◌-◌, ◌*◌, ◌<◌, ◌≤◌, ◌==◌, nat_lt, nat_le, if◌then◌else◌, List, length, Option, Some, None}
 use Rattle.hier_types.specs.declared.settings.Codec.{Codec}
-use Rattle.line_codec.specs.Slots.{used_in}
+use Rattle.line_codec.specs.Slots.{fits, stored, used_in}
 use Rattle.page_slots.specs.declared.desc.Shape.{Shape}
 use Rattle.page_slots.specs.declared.desc.Shape.TheVariants.{Zero, Raw, Packed}
 use Rattle.page_slots.specs.declared.form.Form.{Form}
 use Rattle.page_slots.specs.declared.placing.PlaceKind.{PlaceKind}
 use Rattle.page_slots.specs.declared.placing.PlaceKind.TheVariants as kinds
 use Rattle.page_slots.specs.declared.placing.PlaceRow.{PlaceRow}
+use Rattle.page_slots.specs.Descs.{line_of}
 use Rattle.page_slots.specs.Forms.{packed_form, room, slot_start, Apart}
 use Rattle.page_slots.specs.Lines.{meta, chunk_of, slot}
 use Rattle.page_slots.specs.Sound.{IsSound}
@@ -85,3 +86,27 @@ places_before (Packed order target) = 2
 abbrev pub LinesHaveOnePlace : Type 0
 LinesHaveOnePlace = (shape : Shape) (bytes : List ℕ) (line index : ℕ) → shape ≢ Zero → line < 64
     → IsPlaceOf shape bytes line index ↔ (index ≡ line + places_before shape)
+
+-- a line that stands in a slot uses its stored size of it
+abbrev pub UsesStored : Codec → List ℕ → PlaceRow → Type 0
+UsesStored codec line row = row.kind ≡ kinds.Slot → stored codec line ≡ Some row.used
+
+-- the kind of the place of line i of a page in such a form: its slot, where the line fits it, and else a chunk
+abbrev pub kind_for : Codec → Form → ℕ → List ℕ → PlaceKind
+kind_for codec form i line = if fits codec (room form i) line then kinds.Slot else kinds.Exception
+
+-- a place is of the kind that it has to be for this line
+abbrev pub HasKindFor : Codec → Shape → List ℕ → PlaceRow → Type 0
+HasKindFor codec Zero line row = ⊥
+HasKindFor codec Raw line row = row.kind ≡ kinds.Raw
+HasKindFor codec (Packed order target) line row = row.kind ≡ kind_for codec (packed_form order target) row.line line
+
+-- a place is that of this line
+pub record SuitsLine (codec : Codec) (shape : Shape) (line : List ℕ) (row : PlaceRow) : Type 0 where
+  pub kind : HasKindFor codec shape line row
+  pub used : UsesStored codec line row
+
+-- each place of a line of a sound page is as that line asks
+abbrev pub PlacesSuitLines : Type 0
+PlacesSuitLines = (codec : Codec) (shape : Shape) (bytes : List ℕ) (index : ℕ) (row : PlaceRow) → IsSound codec shape bytes
+    → place_of shape bytes index ≡ Some row → row.line < 64 → SuitsLine codec shape (line_of shape bytes row.line) row

@@ -14,6 +14,9 @@ mod tests;
 
 pub use desc::{Desc, Shape};
 pub use laying::{lay, lay_raw, packed_pages_have_room};
-pub use placing::{PlaceKind, PlaceRow, lines_have_one_place, place, places_are_apart, places_fit};
+pub use placing::{
+    PlaceKind, PlaceRow, lines_have_one_place, place, places_are_apart, places_fit,
+    places_suit_lines,
+};
 pub use putting::{PutResult, put};
 pub use reading::{gather, get};

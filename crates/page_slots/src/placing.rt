@@ -1,12 +1,12 @@
 // The places of a page: which bytes of the block each line has.
-ghost use Rattle.std.specs.Prelude.{◌≡◌, ◌<◌, ◌≤◌, ◌+◌, ℕ, List, Some, IfSome, length};
+ghost use Rattle.std.specs.Prelude.{◌≡◌, ◌<◌, ◌≤◌, ◌+◌, ℕ, List, IfSome, length};
 ghost use Rattle.hier_types.specs.declared.settings.Codec.{Codec as AnyCodec};
-ghost use Rattle.line_codec.specs.Slots.{Says, stored, used_in};
+ghost use Rattle.line_codec.specs.Slots.{Says, used_in};
 ghost use Rattle.byte_parts.specs.Parts.{part};
 ghost use Rattle.page_slots.specs.Descs.{shape_of, line_of};
 ghost use Rattle.page_slots.specs.Forms.{IsForm};
 ghost use Rattle.page_slots.specs.Lines.{content_at, HasLine};
-ghost use Rattle.page_slots.specs.Places.{chunk_row, block_row, line_row, packed_place, raw_place, place_of, PlacesFit, PlacesAreApart, LinesHaveOnePlace};
+ghost use Rattle.page_slots.specs.Places.{chunk_row, block_row, line_row, packed_place, raw_place, place_of, PlacesFit, PlacesAreApart, LinesHaveOnePlace, PlacesSuitLines, UsesStored};
 ghost use Rattle.page_slots.specs.Sound.{IsSound};
 
 use crate::desc::{Desc, Shape};
@@ -137,8 +137,7 @@ pub fn place(desc: &Desc, bytes: &[u8], index: u8) -> Option<PlaceRow>
 
     // What a line uses of its slot is its stored size.
     ensures used { (codec : AnyCodec) → IsSound codec (shape_of desc.now) bytes.now
-        → IfSome result (λ row. row.kind ≡ PlaceKind.Slot
-        → stored codec (line_of (shape_of desc.now) bytes.now row.line) ≡ Some row.used) }
+        → IfSome result (λ row. UsesStored codec (line_of (shape_of desc.now) bytes.now row.line) row) }
 {
     match desc.shape() {
         Shape::Zero => None,
@@ -160,4 +159,10 @@ pub fn places_are_apart()
 /// Each line of a page that is not zero has one place, whose index its number tells.
 pub fn lines_have_one_place()
     ensures { LinesHaveOnePlace }
+{}
+
+/// A line of a sound page stands in its slot exactly where it fits it, and uses its stored size of it. Else it stands in a
+/// chunk of its own.
+pub fn places_suit_lines()
+    ensures { PlacesSuitLines }
 {}

@@ -7,7 +7,7 @@ ghost use Rattle.page_slots.specs.Descs.{shape_of};
 use super::*;
 use buddy_frames::{Block, Frames};
 use hier_types::{Codec, Line};
-use line_codec::stored_size;
+use line_codec::{from_slot, stored_size};
 use sample_lines::{plain, rising};
 
 /// The chunks that a line takes beside its slot of so many bytes.
@@ -121,6 +121,48 @@ fn places_of_a_packed_page(rt: HostRuntime) {
         assert_eq!(rt; place(&desc, &bytes, index), Some(row));
     }
     assert_eq!(rt; place(&desc, &bytes, 66), None);
+}
+
+/// The bytes that the places of lines use, read by the codec, are the lines of the page.
+#[test]
+fn places_read_back(rt: HostRuntime) {
+    for (codec, shortened) in [
+        (Codec::Bdi, rising(0x0001_0000, 4)),
+        (Codec::Fpc, rising(1, 1)),
+    ] {
+        let Ok(mut frames) = Frames::new(rt.alloc(), 1) else {
+            panic!(rt; "no memory");
+        };
+        let Some(block) = frames.take(2) else {
+            panic!(rt; "no block");
+        };
+        assert_eq!(rt; block.order(), 2);
+        let mut lines = page_of(shortened, 60);
+        lines[5] = plain();
+        assert!(rt; chunks_for(codec, 28, &lines) <= 32);
+        let mut bytes = [0; 2048];
+        let shape = Shape::Packed {
+            order: 2,
+            target: 28,
+        };
+        shape.lay(codec, &lines, &mut bytes);
+        let desc = Desc::Packed { block, target: 28 };
+        for index in 2..66u8 {
+            let Some(row) = place(&desc, &bytes, index) else {
+                panic!(rt; "no place");
+            };
+            assert_eq!(rt; row.line, index - 2);
+            let at = row.at as usize;
+            let Some(held) = bytes.get(at..at + row.used as usize) else {
+                panic!(rt; "past the block");
+            };
+            let line = lines[index as usize - 2];
+            match row.kind {
+                PlaceKind::Slot => assert_eq!(rt; from_slot(held), Some(line)),
+                _ => assert_eq!(rt; held, line.as_slice()),
+            }
+        }
+    }
 }
 
 #[test]

@@ -1,14 +1,15 @@
 -- Blocks of units as blocks of bytes.
-use Rattle.std.proofs.Common.{◌≡◌, ◌≢◌, ◌<◌, ◌≤◌, ◌+◌, ◌*◌, ◌^◌, ◌∙◌, ℕ, Option, Some, None, List, IfSome, length, slice_get, refl, sym, ap, subst, inl, inr, arith}
+use Rattle.std.proofs.Common.{◌≡◌, ◌≢◌, ◌<◌, ◌≤◌, ◌+◌, ◌*◌, ◌^◌, ◌∙◌, ℕ, Option, Some, None, List, IfSome, length, option_map, slice_get, refl, sym, ap, subst, inl, inr, arith}
 use Rattle.std.proofs.lemmas.Option.{none-some, same_Some, slice_get-get_or}
 use Rattle.buddy_frames.specs.Units.{Place, past, IsUsedPlace, AreApart}
-use Rattle.buddy_frames.proofs.PlaceLemmas.{four}
+use Rattle.buddy_frames.proofs.PlaceLemmas.{four, some_units}
 use Rattle.line_codec.specs.Layout.{cap}
 use Rattle.page_slots.specs.declared.desc.Desc.{Desc}
 use Rattle.page_slots.specs.declared.desc.Desc.TheVariants as desc
-use Rattle.page_slots.specs.Descs.{block_of, size_of}
+use Rattle.page_slots.specs.declared.desc.Shape.TheVariants.{Zero}
+use Rattle.page_slots.specs.Descs.{block_of, shape_of, size_of}
 use Rattle.page_store.specs.PageBlocks.{AreSound, block_at}
-use Rattle.page_store.specs.Rooms.{held_of, helds, start_of, ShareNone, held_at, IsShaped, IsWithin}
+use Rattle.page_store.specs.Rooms.{held_of, helds, start_of, unit_of, ShareNone, held_at, IsShaped, IsWithin}
 use Rattle.page_store.specs.Store.{desc_at}
 use Rattle.page_store.proofs.BlockLemmas.{at_some, block_at-get, block_live}
 use Rattle.page_store.proofs.RoomLemmas.{helds_at}
@@ -18,7 +19,7 @@ cap_units : (order : ℕ) → order ≤ 2 → 64 * cap order ≡ 512 * 2 ^ order
 cap_units order le = four (λ k. k ≤ 2 → 64 * cap k ≡ 512 * 2 ^ k) order (omega arith) (λ l. refl) (λ l. refl) (λ l. refl) (λ l. absurd (omega arith)) le
 
 -- where the bytes of a block begin and end
-ends_of : (d : Desc) (b : Place) → block_of d ≡ Some b → IsShaped d → (start_of (held_of d) ≡ 512 * b.unit) × (start_of (held_of d) + size_of (held_of d).shape ≡ 512 * past b)
+pub ends_of : (d : Desc) (b : Place) → block_of d ≡ Some b → IsShaped d → (start_of (held_of d) ≡ 512 * b.unit) × (start_of (held_of d) + size_of (held_of d).shape ≡ 512 * past b)
 ends_of desc.Zero b is shaped = absurd (none-some b is)
 ends_of (desc.Raw block) b is shaped =
     let same : block ≡ b = same_Some block b is in
@@ -64,6 +65,32 @@ desc_there ds page within = slice_get-get_or ds page desc.Zero within
 
 pub block_there : (ds : List Desc) (page : ℕ) → page < length ds → block_at ds page ≡ block_of (desc_at ds page)
 block_there ds page within = block_at-get ds page (desc_at ds page) (desc_there ds page within)
+
+-- where the block of a page begins
+pub base_none : (d : Desc) → shape_of d ≡ Zero → option_map (λ (block : Place). 512 * block.unit) (block_of d) ≡ None
+base_none desc.Zero is = refl
+base_none (desc.Raw block) is = absurd (cc)
+base_none (desc.Packed block target) is = absurd (cc)
+
+pub base_some : (d : Desc) → shape_of d ≢ Zero → option_map (λ (block : Place). 512 * block.unit) (block_of d) ≡ Some (512 * unit_of d)
+base_some desc.Zero some = absurd (some refl)
+base_some (desc.Raw block) some = refl
+base_some (desc.Packed block target) some = refl
+
+-- blocks of few frames begin below 2 ^ 28
+pub low_unit : (ds : List Desc) (used : List ℕ) (page : ℕ) → AreSound ds used → page < length ds → length used ≤ 65536 → shape_of (desc_at ds page) ≢ Zero
+    → 512 * unit_of (desc_at ds page) < 268435456
+low_unit ds used page sound within few some = go (block_of (desc_at ds page)) refl
+  where
+    d : Desc
+    d = desc_at ds page
+
+    go : (o : Option Place) → block_of d ≡ o → 512 * unit_of d < 268435456
+    go None is = absurd (none-some (512 * unit_of d) (sym (ap (option_map (λ (block : Place). 512 * block.unit)) is) ∙ base_some d some))
+    go (Some block) is =
+        let lies = (sound.live page block (block_there ds page within ∙ is)).lies in
+        let unit : 512 * block.unit ≡ 512 * unit_of d = same_Some _ _ (sym (ap (option_map (λ (b : Place). 512 * b.unit)) is) ∙ base_some d some) in
+        omega (arith, unit, lies.within, some_units block.order lies.known)
 
 -- the blocks of a sound store lie in its memory, and share no byte
 module _ (ds : List Desc) (used memory : List ℕ) (sound : AreSound ds used) (shaped : (page : ℕ) → page < length ds → IsShaped (desc_at ds page))

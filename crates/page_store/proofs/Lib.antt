@@ -14,3 +14,4 @@ pub mod PagesLemmas
 pub mod TidyLemmas
 pub mod CallLemmas
 pub mod FreshLemmas
+pub mod LayoutLemmas

@@ -7,3 +7,4 @@ pub mod Rows
 pub mod Lays
 pub mod Calls
 pub mod Contents
+pub mod Layouts

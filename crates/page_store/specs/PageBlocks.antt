@@ -1,6 +1,6 @@
 -- The blocks that pages have in the frames.
-use Rattle.std.specs.Prelude.{◌≡◌, ◌≢◌, ℕ, ◌<◌, ◌≤◌, List, Option, Some, None, IfSome, slice_get, slice_set}
-use Rattle.std.specs.Option.{option_and_then}
+use Rattle.std.specs.Prelude.{◌≡◌, ◌≢◌, ℕ, ◌<◌, ◌≤◌, ◌*◌, List, Option, Some, None, IfSome, slice_get, slice_set}
+use Rattle.std.specs.Option.{option_and_then, option_map}
 use Rattle.buddy_frames.specs.Units.{Place, place_at, past, in_use, IsPlace, IsUsedPlace, IsChoice, AreApart, taken, given}
 use Rattle.page_plan.specs.declared.least.PagePlan.{PagePlan}
 use Rattle.page_plan.specs.declared.least.PagePlan.TheVariants as plan
@@ -12,6 +12,10 @@ use Rattle.page_slots.specs.Descs.{block_of}
 -- the block of the page of a number
 abbrev pub block_at : List Desc → ℕ → Option Place
 block_at descriptors page = option_and_then block_of (slice_get descriptors page)
+
+-- the first byte of a page's block, of 512 bytes a unit
+abbrev pub base_at : List Desc → ℕ → Option ℕ
+base_at descriptors page = option_map (λ (block : Place). 512 * block.unit) (block_at descriptors page)
 
 -- a page is kept as its plan says
 abbrev pub IsAtPlan : PagePlan → Desc → Type 0

@@ -95,7 +95,7 @@ IsInPage (AllLines others) = Unit {0}
 abbrev pub changed : Change → List (List ℕ) → List (List ℕ)
 changed Nothing lines = lines
 changed (OneLine line bytes) lines = slice_set lines line bytes
-changed (AllLines others) lines = others
+changed (AllLines others) lines = others.now
 
 -- all lines with what is new of one page
 abbrev pub with_change : List (List ℕ) → ℕ → Change → List (List ℕ)

@@ -1,7 +1,7 @@
 // The blocks of all pages.
-ghost use Rattle.std.specs.Prelude.{◌≡◌, ◌≤◌, ◌<◌, ◌*◌, ℕ, length, replicate, IfOk, IfErr, IsTrue, ◌↔◌, OnOk, OnErr};
+ghost use Rattle.std.specs.Prelude.{◌≡◌, ◌≤◌, ◌<◌, ◌*◌, ◌^◌, ℕ, length, replicate, IfOk, IfErr, IfSome, IsTrue, ◌↔◌, OnOk, OnErr};
 ghost use Rattle.buddy_frames.specs.Units.{place_at, IsFreeBlock, IsCount};
-ghost use Rattle.page_store.specs.PageBlocks.{ComesToPlan, IsAtPlan, LacksRoom, AreSound};
+ghost use Rattle.page_store.specs.PageBlocks.{base_at, ComesToPlan, IsAtPlan, LacksRoom, AreSound};
 ghost use Rattle.page_store.specs.Rooms.{held_of};
 ghost use Rattle.page_store.specs.Store.{desc_at};
 ghost use Rattle.page_slots.specs.declared.desc.Desc.TheVariants as desc;
@@ -11,7 +11,7 @@ use crate::room::Held;
 use buddy_frames::Frames;
 use hier_types::NoMemory;
 use page_plan::PagePlan;
-use page_slots::Desc;
+use page_slots::{Desc, Shape};
 use std::alloc::Global;
 use std::marker::Model;
 use std::mem;
@@ -100,6 +100,21 @@ impl Blocks {
         ensures { result ≡ held_of (desc_at self.now.descriptors page) }
     {
         Held::of(self.desc(page))
+    }
+
+    /// The first byte of a page's block, of 512 bytes a unit. None where it has no block.
+    pub(crate) fn base(&self, page: usize) -> Option<u32>
+        requires { page < length self.now.descriptors }
+        ensures base { result ≡ base_at self.now.descriptors page }
+        ensures most { IfSome result (λ base. base < 2 ^ 28) }
+    {
+        // With their count the frames tell that they are few.
+        let _count = self.frames.count();
+        let held = self.held(page);
+        if held.shape == Shape::Zero {
+            return None;
+        }
+        Some(512 * held.unit)
     }
 
     /// Whether a page is kept as the plan says.

@@ -1,6 +1,6 @@
-//! A memory of pages: each page that is not zero has a block of the order that its least compressed layout needs.
-//! Contracts see the lines, how each page is kept and where its block lies, the units in use, counts and refusals.
-//! It never moves a page for another's sake, and keeps the lines plain: blocks are room that is set aside.
+//! A memory of pages: each page that is not zero stands in a block, packed or with its lines one after another.
+//! Contracts see the lines, how each page is kept, the bytes of its block and where they lie, the units in use, the
+//! metadata that a cache holds, counts and refusals. It never moves a block for another page's sake.
 #![tactic(auto)]
 
 mod blocks;
@@ -12,4 +12,4 @@ mod room;
 mod tests;
 mod totals;
 
-pub use pages::{Pages, sure_writes_are_one};
+pub use pages::{Pages, sound_stores_are_laid_out, sure_writes_are_one};

@@ -1,5 +1,5 @@
 // The memory as a layer.
-ghost use Rattle.std.specs.Prelude.{◌≡◌, ◌≢◌, ◌≤◌, ◌<◌, ◌*◌, ◌/◌, ◌%◌, ◌+◌, ◌⊎◌, ℕ, List, [], length, replicate, slice_set, IsTrue, IsFalse, IfOk, IfErr, IfSome, OnOk, OnErr, MatchResult};
+ghost use Rattle.std.specs.Prelude.{◌≡◌, ◌≢◌, ◌≤◌, ◌<◌, ◌*◌, ◌/◌, ◌%◌, ◌+◌, ◌^◌, ◌⊎◌, ℕ, List, [], length, replicate, slice_set, IsTrue, IsFalse, IfOk, IfErr, IfSome, OnOk, OnErr, MatchResult};
 ghost use Rattle.buddy_frames.specs.Units.{place_at, IsFreeBlock, IsCount};
 ghost use Rattle.hier_types.specs.Lines.{AreLines};
 ghost use Rattle.hier_types.specs.Settings.{IsWithin as IsWithinRange};
@@ -9,8 +9,9 @@ ghost use Rattle.page_plan.specs.PagePlan.{plan_of};
 ghost use Rattle.page_plan.specs.Pages.{page_of};
 ghost use Rattle.page_slots.specs.Descs.{size_of};
 ghost use Rattle.page_store.specs.Contents.{SureWritesAreOne};
+ghost use Rattle.page_store.specs.Layouts.{place_in, SoundStoresAreLaidOut};
 ghost use Rattle.page_store.specs.Lays.{noted};
-ghost use Rattle.page_store.specs.PageBlocks.{HasRoom, LacksRoom};
+ghost use Rattle.page_store.specs.PageBlocks.{base_at, HasRoom, LacksRoom};
 ghost use Rattle.page_store.specs.Rooms.{bytes_of, IsWithin, IsInPage, changed, with_change};
 
 use crate::blocks::Blocks;
@@ -22,7 +23,7 @@ use hier_types::{
 };
 use meta_cache::MetaCache;
 use page_plan::PageSizes;
-use page_slots::{PutResult, Shape};
+use page_slots::{PlaceRow, PutResult, Shape, place};
 use size_ledger::{Ledger, SizeRow};
 use std::alloc::Global;
 use std::marker::Model;
@@ -237,7 +238,7 @@ impl Pages {
     {
         let lines = lines_in(bytes);
         let sizes = PageSizes::of(self.codec, &lines);
-        self.rewrite(page, sizes, &Change::AllLines { lines })
+        self.rewrite(page, sizes, &Change::AllLines { lines: &lines })
     }
 
     /// Changes one line: in its place, or with its page laid anew.
@@ -288,6 +289,32 @@ impl Pages {
         ensures crowded { (refusal : Refusal) → Crowded self.now refusal → refusal.order ≤ order → result ≡ 0 }
     {
         self.blocks.free(order)
+    }
+
+    /// A place of a page by its index: the block first, then the metadata of a packed page, then the lines in rising order.
+    /// None exactly where the index is past the page's places. A page of zeros and one past the last have none.
+    pub fn layout_row(&self, page: PageNo, index: u8) -> Option<PlaceRow>
+        ensures { result ≡ place_in self.now page.0 index }
+    {
+        let page = page.0 as usize;
+        if page >= self.sizes.len() {
+            return None;
+        }
+        let held = self.blocks.held(page);
+        place(self.blocks.desc(page), held.bytes(&self.memory), index)
+    }
+
+    /// The first byte of a page's block among those of the frames, a multiple of the block's length. None exactly where the
+    /// page has no block.
+    pub fn base_of(&self, page: PageNo) -> Option<u32>
+        ensures base { result ≡ base_at self.now.descriptors page.0 }
+        ensures most { IfSome result (λ base. base < 2 ^ 28) }
+    {
+        let page = page.0 as usize;
+        if page >= self.sizes.len() {
+            return None;
+        }
+        self.blocks.base(page)
     }
 
     /// What a page takes as it lies.
@@ -357,6 +384,13 @@ impl Layer for Pages {
         held.line(&self.memory, (line.0 % PAGE_LINES) as u8, into);
     }
 }
+
+/// The block of each page lies in the frames, and no two of them share a byte. Neither do two places of a page, and each
+/// line of a page that has a block has one place. A line stands in its slot exactly where it fits it, and uses its stored
+/// size of it.
+pub fn sound_stores_are_laid_out()
+    ensures { SoundStoresAreLaidOut }
+{}
 
 /// A write that can't be cut has one answer and leaves one state, by the contents alone.
 pub fn sure_writes_are_one()

@@ -21,10 +21,10 @@ pub(crate) struct Held {
 
 /// What is new of a page that is laid anew.
 #[derive(Debug, Drop)]
-pub(crate) enum Change {
+pub(crate) enum Change<'a> {
     Nothing,
     OneLine { line: u8, bytes: Line },
-    AllLines { lines: [Line; 64] },
+    AllLines { lines: &'a [Line; 64] },
 }
 
 impl Held {
@@ -55,6 +55,16 @@ impl Held {
         }
     }
 
+    /// The bytes of the page's block.
+    pub(crate) fn bytes(self, memory: &[u8]) -> &[u8]
+        requires { IsWithin memory.now self }
+        ensures { result.now ≡ bytes_of memory.now self }
+    {
+        let at = self.start();
+        let size = self.shape.size();
+        &memory[at..at + size]
+    }
+
     /// One line of the page.
     pub(crate) fn line(self, memory: &[u8], line: u8, into: &mut Line)
         requires within { IsWithin memory.now self }
@@ -62,9 +72,7 @@ impl Held {
         requires line_in { line < 64 }
         ensures { into.new ≡ line_of self.shape (bytes_of memory.now self) line }
     {
-        let at = self.start();
-        let size = self.shape.size();
-        self.shape.line(&memory[at..at + size], line, into);
+        self.shape.line(self.bytes(memory), line, into);
     }
 
     /// The metadata of a page that has some.
@@ -106,9 +114,7 @@ impl Held {
         requires sound { (codec : AnyCodec) × IsSound codec self.shape (bytes_of memory.now self) }
         ensures { into.new ≡ content_of self.shape (bytes_of memory.now self) }
     {
-        let at = self.start();
-        let size = self.shape.size();
-        self.shape.gather(&memory[at..at + size], into);
+        self.shape.gather(self.bytes(memory), into);
     }
 
     /// Lays these lines in the block, over whatever stands there.
@@ -127,7 +133,7 @@ impl Held {
     }
 }
 
-impl Change {
+impl Change<'_> {
     /// Brings the lines of a page up to date.
     fn apply(&self, lines: &mut [Line; 64])
         requires { IsInPage self.now }
@@ -136,7 +142,7 @@ impl Change {
         match self {
             Change::Nothing => {}
             Change::OneLine { line, bytes } => lines[*line as usize] = *bytes,
-            Change::AllLines { lines: others } => *lines = *others,
+            Change::AllLines { lines: others } => *lines = **others,
         }
     }
 }

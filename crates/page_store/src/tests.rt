@@ -4,6 +4,7 @@ ghost use Rattle.hier_types.specs.declared.settings.Codec.TheVariants.{Bdi};
 
 use super::*;
 use hier_types::{Codec, Geometry, Layer, Line, LineNo, NoMemory, NoSpace, PageNo, Totals};
+use page_slots::{PlaceKind, PlaceRow};
 use sample_lines::{plain, rising};
 use std::alloc::Global;
 
@@ -107,9 +108,48 @@ fn pages_are_looked_up_before_they_change(rt: HostRuntime) {
         let counts = pages.counts();
         assert_eq!(rt; (counts.meta_hits, counts.meta_misses), (hits, misses));
         assert_eq!(rt; pages.totals().blocks, blocks);
-        let mut line = [0; 64];
-        pages.view(LineNo(0), &mut line);
-        assert_eq!(rt; line, plain());
+        for index in 0..64u32 {
+            let mut line = [7; 64];
+            pages.view(LineNo(index), &mut line);
+            let expected = if index < count { plain() } else { [0; 64] };
+            assert_eq!(rt; line, expected);
+        }
+    }
+}
+
+/// A page whose first line no slot holds: slots of 4 bytes stand from byte 64 on, and the exception behind them.
+#[test]
+fn places_of_a_page(rt: HostRuntime) {
+    let Ok(mut pages) = store(rt.alloc(), 2, 1) else {
+        panic!(rt; "no memory");
+    };
+    assert!(rt; fill(&mut pages, 1, 1, &plain()));
+    assert_eq!(rt;
+        (
+            pages.base_of(PageNo(0)),
+            pages.base_of(PageNo(1)),
+            pages.base_of(PageNo(2))
+        ),
+        (None, Some(0), None)
+    );
+    for (index, kind, line, at, room, used) in [
+        (0, PlaceKind::Block, 64, 0, 512, 512),
+        (1, PlaceKind::Meta, 64, 0, 64, 64),
+        (2, PlaceKind::Exception, 0, 320, 64, 64),
+        (3, PlaceKind::Slot, 1, 68, 4, 2),
+        (65, PlaceKind::Slot, 63, 316, 4, 2),
+    ] {
+        let expected = PlaceRow {
+            kind,
+            line,
+            at,
+            room,
+            used,
+        };
+        assert_eq!(rt; pages.layout_row(PageNo(1), index), Some(expected));
+    }
+    for (page, index) in [(0, 0), (1, 66), (2, 0)] {
+        assert_eq!(rt; pages.layout_row(PageNo(page), index), None);
     }
 }
 
