@@ -87,6 +87,14 @@ impl NumberSet {
         sum_up(&mut self.summary, index, next);
     }
 
+    /// Whether the set has a number below 65,536.
+    pub fn has(&self, number: u32) -> bool
+        requires { number < 65536 }
+        ensures { has self.now number ≡ bit_of result }
+    {
+        (self.words[(number / 64) as usize] >> (number % 64)) & 1 == 1
+    }
+
     /// The least number of the set, or none where it has no number. It reads at most 17 words.
     pub fn first(&self) -> Option<u32>
         ensures { MatchOption result ((n : ℕ) → n < 65536 → has self.now n ≡ 0) (IsLeast self.now) }

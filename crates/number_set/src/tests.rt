@@ -24,6 +24,7 @@ fn numbers_come_and_go(rt: HostRuntime) {
         (65_535, false, None),
     ] {
         set.put(number.into(), on);
+        assert_eq!(rt; set.has(number.into()), on, "put {number}");
         assert_eq!(rt; set.first(), least, "after {number}");
     }
 }

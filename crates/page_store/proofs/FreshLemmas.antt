@@ -44,7 +44,7 @@ zero_bytes memory (suc n) =
     ap (λ (b : List ℕ). b ∷ all_bytes memory (replicate n zero_held)) none ∙ ap (λ (bs : List (List ℕ)). [] ∷ bs) (zero_bytes memory n)
 
 module _ (codec : Codec) (memory : List ℕ) (pages : ℕ) (used : List ℕ) (ways : ℕ) (counts : PageCounts) where
-  abbrev start : Store
+  abbrev pub start : Store
   start = record {
     codec = codec;
     lines = replicate (64 * pages) zero_line;

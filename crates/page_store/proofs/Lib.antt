@@ -15,3 +15,4 @@ pub mod TidyLemmas
 pub mod CallLemmas
 pub mod FreshLemmas
 pub mod LayoutLemmas
+pub mod StrayLemmas

@@ -4,6 +4,7 @@ use Rattle.hier_types.specs.Lines.{AreLines, zero_line}
 use Rattle.hier_types.specs.declared.counts.PageCounts.{PageCounts}
 use Rattle.hier_types.specs.declared.settings.Codec.{Codec}
 use Rattle.meta_cache.specs.Entries.{AreDistinct}
+use Rattle.number_set.specs.Numbers.{has}
 use Rattle.page_plan.specs.KeptSizes.{kept_sizes}
 use Rattle.page_plan.specs.PagePlan.{plan_of}
 use Rattle.page_plan.specs.Pages.{page_of}
@@ -104,6 +105,11 @@ pub record IsSound (s : Store) : Type 0 where
 abbrev pub AreAtPlan : Store → Type 0
 AreAtPlan s = (page : ℕ) (desc : Desc) → slice_get s.descriptors page ≡ Some desc → IsAtPlan (plan_of s.codec (page_of s.lines page)) desc
 
+-- each page that is not among the strays is at the plan of its lines
+abbrev pub AreStrays : Store → List ℕ → Type 0
+AreStrays s strays = (page : ℕ) (desc : Desc) → slice_get s.descriptors page ≡ Some desc → has strays page ≡ 0
+    → IsAtPlan (plan_of s.codec (page_of s.lines page)) desc
+
 -- what each line of each page takes in a slot
 abbrev pub AreSizes : Codec → List (List ℕ) → List (List ℕ) → Type 0
 AreSizes codec lines sizes = (page : ℕ) → page < length sizes → slice_get sizes page ≡ Some (kept_sizes codec (page_of lines page))
@@ -115,3 +121,8 @@ pub record IsKept (s : Store) (memory : List ℕ) (sizes : List (List ℕ)) : Ty
   pub in_memory : length memory ≡ 4096 * length s.used
   pub counted : length sizes ≡ length s.descriptors
   pub sized : AreSizes s.codec s.lines sizes
+
+-- the store as it is kept, with the pages that may be off their plan
+pub record IsKeptWithStrays (s : Store) (memory : List ℕ) (sizes : List (List ℕ)) (strays : List ℕ) : Type 0 where
+  pub kept : IsKept s memory sizes
+  pub strays_are : AreStrays s strays

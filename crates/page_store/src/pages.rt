@@ -22,6 +22,7 @@ use hier_types::{
     Codec, Geometry, Layer, Line, LineNo, NoMemory, NoSpace, PAGE_LINES, PageCounts, PageNo, Totals,
 };
 use meta_cache::MetaCache;
+use number_set::NumberSet;
 use page_plan::PageSizes;
 use page_slots::{PlaceRow, PutResult, Shape, place};
 use size_ledger::{Ledger, SizeRow};
@@ -40,19 +41,21 @@ pub struct Pages {
     memory: Vec<u8>,
     blocks: Blocks,
     sizes: Vec<PageSizes>,
+    /// The pages that may be off their plan.
+    strays: NumberSet,
     meta: MetaCache,
     counts: PageCounts,
     stops: u64,
 }
 
 impl Model for Pages {
-    ghost use Rattle.page_store.specs.Store.{Store, IsKept, store_in};
+    ghost use Rattle.page_store.specs.Store.{Store, IsKeptWithStrays, store_in};
 
     ghost Value = { Store };
 
     ghost view = { λ p. store_in p.codec p.memory.items p.blocks.descriptors p.blocks.used p.meta p.counts p.stops };
 
-    ghost invariant = { λ p. IsKept (store_in p.codec p.memory.items p.blocks.descriptors p.blocks.used p.meta p.counts p.stops) p.memory.items p.sizes.items };
+    ghost invariant = { λ p. IsKeptWithStrays (store_in p.codec p.memory.items p.blocks.descriptors p.blocks.used p.meta p.counts p.stops) p.memory.items p.sizes.items p.strays };
 }
 
 /// So many copies of a value.
@@ -107,12 +110,14 @@ impl Pages {
         let memory = vec![in alloc; 0u8; 4096 * frames as usize]?;
         let blocks = Blocks::new(alloc, pages, frames)?;
         let sizes = copies(alloc, pages as usize, PageSizes::of_zeros())?;
+        let strays = NumberSet::new(alloc)?;
         let meta = MetaCache::new(alloc, meta)?;
         Ok(Pages {
             codec,
             memory,
             blocks,
             sizes,
+            strays,
             meta,
             counts: PageCounts::default(),
             stops: 0,
@@ -157,6 +162,7 @@ impl Pages {
         }
         self.sizes[index].set(self.codec, offset as usize, from);
         note(&mut self.meta, page, held, &self.memory);
+        self.strays.put(page.0, true);
         true
     }
 
@@ -180,17 +186,22 @@ impl Pages {
         relay(self.codec, old, new, change, &mut self.memory);
         self.sizes[page] = sizes;
         note(&mut self.meta, PageNo(page as u32), new, &self.memory);
+        self.strays.put(page as u32, false);
         Ok(())
     }
 
-    /// Brings one page to its plan. It always has room in its own block.
+    /// Brings one page to its plan. It always has room in its own block. One that is no stray is there already.
     fn tidy_page(&mut self, page: usize)
         requires { page < length self.old.descriptors }
         ensures brings { BringsToPlan self.old page self.new }
         ensures keeps { KeepsLines self.old self.new }
     {
+        if !self.strays.has(page as u32) {
+            return;
+        }
         let sizes = self.sizes[page];
         if self.blocks.is_at(page, sizes.plan()) {
+            self.strays.put(page as u32, false);
             return;
         }
         self.lay(page, sizes, &Change::Nothing).unwrap();

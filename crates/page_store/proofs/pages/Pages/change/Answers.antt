@@ -23,23 +23,23 @@ lines_stay c =
     ap (λ (x : Store). x.lines) (c.self.view_is ∙ c.put.ensures.unchanged (search rules) ∙ c.look.ensures) ∙ (looked_like c.args.self.now (c.args.line.0 / 64)).lines_are
 
 page_in : (c : After-set) → c.args.line.0 / 64 < length c.self.inside.blocks.descriptors
-page_in c = omega (arith, c.requires, ap length (lines_stay c), c.self.invariant.sound.whole)
+page_in c = omega (arith, c.requires, ap length (lines_stay c), c.self.invariant.kept.sound.whole)
 
 pub rewrite-requires-clause-lines : goal.rewrite-requires-clause-lines
 rewrite-requires-clause-lines c' =
     let c = (goal.at.rewrite-requires-clause-lines c').After-set in
-    rw (← c'.self.view_is) (lines-set (page_of (seen c).lines (c.args.line.0 / 64)) (c.args.line.0 % 64) c.args.from.now (lines_of_one (seen c).lines (c.args.line.0 / 64) c.self.invariant.sound.lines_are) (search rules))
+    rw (← c'.self.view_is) (lines-set (page_of (seen c).lines (c.args.line.0 / 64)) (c.args.line.0 % 64) c.args.from.now (lines_of_one (seen c).lines (c.args.line.0 / 64) c.self.invariant.kept.sound.lines_are) (search rules))
 
 pub rewrite-requires-clause-whole : goal.rewrite-requires-clause-whole
 rewrite-requires-clause-whole c' =
     let c = (goal.at.rewrite-requires-clause-whole c').After-set in
     rw (← c'.self.view_is) (length-set (page_of (seen c).lines (c.args.line.0 / 64)) (c.args.line.0 % 64) c.args.from.now
-    ∙ length-page_of (seen c).lines (c.args.line.0 / 64) (omega (arith, page_in c, c.self.invariant.sound.whole)))
+    ∙ length-page_of (seen c).lines (c.args.line.0 / 64) (omega (arith, page_in c, c.self.invariant.kept.sound.whole)))
 
 pub rewrite-requires-clause-sized : goal.rewrite-requires-clause-sized
 rewrite-requires-clause-sized c' =
     let c = (goal.at.rewrite-requires-clause-sized c').After-set in
-    rw (← c'.self.view_is) (own.sizes_with (seen c) c.self.inside.memory.items c.self.inside.sizes.items c.self.invariant (c.args.line.0 / 64) (c.args.line.0 % 64) c.args.from.now c.index.result.now c.set.new.self (page_in c)
+    rw (← c'.self.view_is) (own.sizes_with (seen c) c.self.inside.memory.items c.self.inside.sizes.items c.self.invariant.kept (c.args.line.0 / 64) (c.args.line.0 % 64) c.args.from.now c.index.result.now c.set.new.self (page_in c)
     c.index.ensures c.set.ensures)
 
 -- the lines with the new one, by its page

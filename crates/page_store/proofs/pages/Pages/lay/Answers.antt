@@ -16,6 +16,7 @@ use Rattle.page_plan.proofs.PageLemmas.{page_of-with}
 use Rattle.page_store.specs.Store.{Store, desc_at, store_in}
 use Rattle.page_store.proofs.BlockLemmas.{had_room}
 use Rattle.page_store.proofs.PagesLemmas as own
+use Rattle.page_store.proofs.StrayLemmas.{strays_laid}
 use Rattle.page_store.proofs.pages.Pages.lay.Goals as goal
 use Rattle.page_store.proofs.pages.Pages.lay.Goals.{After-held-new, After-relay, After-note}
 
@@ -53,21 +54,21 @@ new_is c = c.held-new.ensures
 
 within : (c : After-held-new) → IsWithin c.self.inside.memory.items c.held-new.result
 within c =
-    subst (IsWithin c.self.inside.memory.items) (sym (new_is c)) (own.new_within (seen c) c.self.inside.memory.items c.self.inside.sizes.items c.self.invariant c.args.page (page_in c) (lines c) (whole c)
+    subst (IsWithin c.self.inside.memory.items) (sym (new_is c)) (own.new_within (seen c) c.self.inside.memory.items c.self.inside.sizes.items c.self.invariant.kept c.args.page (page_in c) (lines c) (whole c)
     c.settle.new.self.descriptors c.settle.new.self.used (comes c) c.in_ok-settle.ensures.sound c.in_ok-settle.ensures.frames (range c))
 
 pub relay-requires-clause-old_within : goal.relay-requires-clause-old_within
 relay-requires-clause-old_within c' =
     let c = (goal.at.relay-requires-clause-old_within c').After-held-new in
     subst (λ (m : List ℕ). IsWithin m c.held-old.result) (sym c'.deref_mut.ensures.value)
-    (subst (IsWithin c.self.inside.memory.items) (sym (old_is c)) (own.own_within (seen c) c.self.inside.memory.items c.self.inside.sizes.items c.self.invariant c.args.page (page_in c)))
+    (subst (IsWithin c.self.inside.memory.items) (sym (old_is c)) (own.own_within (seen c) c.self.inside.memory.items c.self.inside.sizes.items c.self.invariant.kept c.args.page (page_in c)))
 
 pub relay-requires-clause-old_sound : goal.relay-requires-clause-old_sound
 relay-requires-clause-old_sound c' =
     let c = (goal.at.relay-requires-clause-old_sound c').After-held-new in
     subst (λ (m : List ℕ). IsSoundPage c.self.inside.codec c.held-old.result.shape (bytes_of m c.held-old.result)) (sym c'.deref_mut.ensures.value)
     (subst (λ (h : Held). IsSoundPage c.self.inside.codec h.shape (bytes_of c.self.inside.memory.items h)) (sym (old_is c))
-    (own.own_sound (seen c) c.self.inside.memory.items c.self.inside.sizes.items c.self.invariant c.args.page (page_in c)))
+    (own.own_sound (seen c) c.self.inside.memory.items c.self.inside.sizes.items c.self.invariant.kept c.args.page (page_in c)))
 
 pub relay-requires-clause-within : goal.relay-requires-clause-within
 relay-requires-clause-within c' =
@@ -79,14 +80,14 @@ gathered : (c : After-held-new) (m : List ℕ) → m ≡ c.self.inside.memory.it
 gathered c m is =
     ap (λ (b : List ℕ). changed c.args.change.now (content_of c.held-old.result.shape (bytes_of b c.held-old.result))) is
     ∙ ap (λ (h : Held). changed c.args.change.now (content_of h.shape (bytes_of c.self.inside.memory.items h))) (old_is c)
-    ∙ ap (changed c.args.change.now) (sym (own.own_lines (seen c) c.self.inside.memory.items c.self.inside.sizes.items c.self.invariant c.args.page (page_in c)))
+    ∙ ap (changed c.args.change.now) (sym (own.own_lines (seen c) c.self.inside.memory.items c.self.inside.sizes.items c.self.invariant.kept c.args.page (page_in c)))
 
 pub relay-requires-clause-room : goal.relay-requires-clause-room
 relay-requires-clause-room c' =
     let c = (goal.at.relay-requires-clause-room c').After-held-new in
     subst (λ (ls : List (List ℕ)). HasRoomFor c.self.inside.codec c.held-new.result.shape ls (size_of c.held-new.result.shape)) (sym (gathered c c'.deref_mut.result.now c'.deref_mut.ensures.value))
     (subst (λ (h : Held). HasRoomFor c.self.inside.codec h.shape (lines c) (size_of h.shape)) (sym (new_is c))
-    (own.new_room (seen c) c.self.inside.memory.items c.self.inside.sizes.items c.self.invariant c.args.page (page_in c) (lines c) (whole c)
+    (own.new_room (seen c) c.self.inside.memory.items c.self.inside.sizes.items c.self.invariant.kept c.args.page (page_in c) (lines c) (whole c)
     c.settle.new.self.descriptors c.settle.new.self.used (comes c) c.in_ok-settle.ensures.sound c.in_ok-settle.ensures.frames (range c)))
 
 back : (c : After-relay) → take c.self.inside.memory.len (c.relay.new.memory ++ drop (length c.relay.new.memory) c.self.inside.memory.items) ≡ c.relay.new.memory
@@ -107,24 +108,31 @@ pub invariant_of-self-2 : goal.invariant_of-self-2
 invariant_of-self-2 c' =
     let r = (goal.at.invariant_of-self-2 c').After-relay in
     let c = (goal.at.invariant_of-self-2 c').After-held-new in
-    own.kept_by (seen c) c.self.inside.memory.items c.self.inside.sizes.items c.self.invariant c.args.page (page_in c) (lines c) (whole c)
+    let lays = own.lays_by (seen c) c.self.inside.memory.items c.self.inside.sizes.items c.self.invariant.kept c.args.page (page_in c) (lines c) (whole c)
     c.settle.new.self.descriptors c.settle.new.self.used (comes c) c.in_ok-settle.ensures.sound c.in_ok-settle.ensures.frames (range c)
     c.held-new.result (new_is c) r.deref_mut.result.now r.relay.new.memory _ c'.deref.result.now r.deref_mut.ensures.value (back r) c'.deref.ensures.value
-    _ (gathered c r.deref_mut.result.now r.deref_mut.ensures.value) r.relay.ensures.changes r.relay.ensures.sound r.relay.ensures.content r.relay.ensures.value c'.note.new.meta c'.note.ensures
-    c.args.sizes (sized c)
+    _ (gathered c r.deref_mut.result.now r.deref_mut.ensures.value) r.relay.ensures.changes r.relay.ensures.sound r.relay.ensures.content r.relay.ensures.value c'.note.new.meta c'.note.ensures in
+    record {
+      kept = own.kept_by (seen c) c.self.inside.memory.items c.self.inside.sizes.items c.self.invariant.kept c.args.page (page_in c) (lines c) (whole c)
+          c.settle.new.self.descriptors c.settle.new.self.used (comes c) c.in_ok-settle.ensures.sound c.in_ok-settle.ensures.frames (range c)
+          c.held-new.result (new_is c) r.deref_mut.result.now r.relay.new.memory _ c'.deref.result.now r.deref_mut.ensures.value (back r) c'.deref.ensures.value
+          _ (gathered c r.deref_mut.result.now r.deref_mut.ensures.value) r.relay.ensures.changes r.relay.ensures.sound r.relay.ensures.content r.relay.ensures.value c'.note.new.meta c'.note.ensures
+          c.args.sizes (sized c);
+      strays_are = strays_laid (seen c) _ c.self.inside.strays c'.put.new.self c.args.page (lines c) c.self.invariant.kept.sound (page_in c) (whole c) c.self.invariant.strays_are c'.put.ensures lays;
+    }
 
 pub returns-clause-ok : goal.returns-clause-ok
 returns-clause-ok c' =
     let r = (goal.at.returns-clause-ok c').After-relay in
     let c = (goal.at.returns-clause-ok c').After-held-new in
-    rw (← c'.self.view_is) (own.lays_by (seen c) c.self.inside.memory.items c.self.inside.sizes.items c.self.invariant c.args.page (page_in c) (lines c) (whole c)
+    rw (← c'.self.view_is) (own.lays_by (seen c) c.self.inside.memory.items c.self.inside.sizes.items c.self.invariant.kept c.args.page (page_in c) (lines c) (whole c)
     c.settle.new.self.descriptors c.settle.new.self.used (comes c) c.in_ok-settle.ensures.sound c.in_ok-settle.ensures.frames (range c)
     c.held-new.result (new_is c) r.deref_mut.result.now r.relay.new.memory _ c'.deref.result.now r.deref_mut.ensures.value (back r) c'.deref.ensures.value
     _ (gathered c r.deref_mut.result.now r.deref_mut.ensures.value) r.relay.ensures.changes r.relay.ensures.sound r.relay.ensures.content r.relay.ensures.value c'.note.new.meta c'.note.ensures)
 
 -- the page among all lines then
 here : (c : After-held-new) → page_of (with_change (seen c).lines c.args.page c.args.change.now) c.args.page ≡ lines c
-here c = page_of-with (seen c).lines c.args.page (lines c) (omega (arith, page_in c, c.self.invariant.sound.whole)) (whole c)
+here c = page_of-with (seen c).lines c.args.page (lines c) (omega (arith, page_in c, c.self.invariant.kept.sound.whole)) (whole c)
 
 pub returns-clause-room : goal.returns-clause-room
 returns-clause-room c' =
@@ -141,7 +149,7 @@ returns-in_err-settle-clause-err c =
     let are : AreLines new = rw (← c.self.view_is) at c.requires.lines in
     let whole : length new ≡ 64 = rw (← c.self.view_is) at c.requires.whole in
     let sized : c.args.sizes ≡ kept_sizes p.codec new = rw (← c.self.view_is) at c.requires.sized in
-    let here : page_of (with_change s.lines c.args.page c.args.change.now) c.args.page ≡ new = page_of-with s.lines c.args.page new (omega (arith, page_in, c.self.invariant.sound.whole)) whole in
+    let here : page_of (with_change s.lines c.args.page c.args.change.now) c.args.page ≡ new = page_of-with s.lines c.args.page new (omega (arith, page_in, c.self.invariant.kept.sound.whole)) whole in
     let plan : c.plan.result ≡ plan_of p.codec (page_of (with_change s.lines c.args.page c.args.change.now) c.args.page) =
     c.plan.ensures.value p.codec new are (sym sized) ∙ ap (plan_of p.codec) (sym here) in
     let found : IfErr c.from_residual.result (LacksRoom p.blocks.descriptors p.blocks.used c.args.page c.plan.result) = search rules in

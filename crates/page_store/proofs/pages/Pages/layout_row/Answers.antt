@@ -15,13 +15,13 @@ abbrev desc : After-deref → Desc
 desc c = desc_at c.self.inside.blocks.descriptors c.args.page.0
 
 page_in : (c : After-deref) → c.args.page.0 < length c.self.inside.blocks.descriptors
-page_in c = omega (arith, c.if-page-len.false, c.len.ensures, c.self.invariant.counted)
+page_in c = omega (arith, c.if-page-len.false, c.len.ensures, c.self.invariant.kept.counted)
 
 pub bytes-requires : goal.bytes-requires
 bytes-requires c' =
     let c = (goal.at.bytes-requires c').After-deref in
     subst (λ (m : List ℕ). IsWithin m c.held-held.result) (sym c.deref.ensures.value)
-    (subst (IsWithin c.self.inside.memory.items) (sym c.held-held.ensures) (own.own_within (seen c) c.self.inside.memory.items c.self.inside.sizes.items c.self.invariant c.args.page.0 (page_in c)))
+    (subst (IsWithin c.self.inside.memory.items) (sym c.held-held.ensures) (own.own_within (seen c) c.self.inside.memory.items c.self.inside.sizes.items c.self.invariant.kept c.args.page.0 (page_in c)))
 
 pub place-requires : goal.place-requires
 place-requires c' =
@@ -32,5 +32,5 @@ place-requires c' =
       c.self.inside.codec,
       subst (λ (b : List ℕ). IsSoundPage c.self.inside.codec (shape_of c.desc.result.now) b) (sym bytes)
           (subst (λ (d : Desc). IsSoundPage c.self.inside.codec (shape_of d) (bytes_of memory (held_of (desc c)))) (sym c.desc.ensures)
-          (own.own_sound (seen c) memory c.self.inside.sizes.items c.self.invariant c.args.page.0 (page_in c))),
+          (own.own_sound (seen c) memory c.self.inside.sizes.items c.self.invariant.kept c.args.page.0 (page_in c))),
     )

@@ -5,6 +5,7 @@ use Rattle.page_plan.specs.KeptSizes.{kept_sizes}
 use Rattle.page_store.specs.PageBlocks.{AreSound}
 use Rattle.page_slots.specs.declared.desc.Desc.TheVariants as descs
 use Rattle.page_store.proofs.FreshLemmas.{fresh_seen, kept_fresh}
+use Rattle.page_store.proofs.StrayLemmas.{strays_fresh}
 use Rattle.page_store.proofs.pages.Pages.new.Goals as goal
 
 pub invariant_of-result : goal.invariant_of-result
@@ -17,7 +18,10 @@ invariant_of-result c =
     let sound : AreSound (replicate pages descs.Zero) (replicate c.args.frames 0) = rw c.in_ok-blocks.ensures.fresh at c.in_ok-blocks.ensures.sound in
     let long : length (replicate (4096 * c.args.frames) 0) ≡ 4096 * length (replicate c.args.frames 0) = length-replicate (4096 * c.args.frames) 0 ∙ ap (λ n. 4096 * n) (sym (length-replicate c.args.frames 0)) in
     rw (memory, c.in_ok-blocks.ensures.fresh, c.in_ok-sizes.ensures, c.in_ok-meta.ensures, sizes)
-    (kept_fresh c.args.codec (replicate (4096 * c.args.frames) 0) pages (replicate c.args.frames 0) c.args.meta c.default.result some most sound long)
+    (record {
+      kept = kept_fresh c.args.codec (replicate (4096 * c.args.frames) 0) pages (replicate c.args.frames 0) c.args.meta c.default.result some most sound long;
+      strays_are = strays_fresh c.args.codec (replicate (4096 * c.args.frames) 0) pages (replicate c.args.frames 0) c.args.meta c.default.result _;
+    })
 
 pub returns : goal.returns
 returns c =

@@ -13,6 +13,7 @@ use Rattle.page_store.specs.Lays.{noted}
 use Rattle.page_store.specs.Rooms.{IsWithin, bytes_at, bytes_of}
 use Rattle.page_store.specs.Store.{Store, shape_at, store_in}
 use Rattle.page_store.proofs.PagesLemmas as own
+use Rattle.page_store.proofs.StrayLemmas.{strays_put}
 use Rattle.page_store.proofs.pages.Pages.put.Goals as goal
 use Rattle.page_store.proofs.pages.Pages.put.Goals.{After-held-held, After-put}
 
@@ -25,25 +26,25 @@ seen c = store_in c.self.inside.codec c.self.inside.memory.items c.self.inside.b
 page_in : (c : After-held-held) → (c.args.line.0 / 64) < length c.self.inside.blocks.descriptors
 page_in c =
     let inside : c.args.line.0 < length (seen c).lines = rw (← c.self.view_is) at c.requires in
-    omega (arith, inside, c.self.invariant.sound.whole)
+    omega (arith, inside, c.self.invariant.kept.sound.whole)
 
 shape_is : (c : After-held-held) → shape_at (seen c) (c.args.line.0 / 64) ≡ c.held-held.result.shape
 shape_is c =
-    own.own_shape (seen c) c.self.inside.memory.items c.self.inside.sizes.items c.self.invariant (c.args.line.0 / 64) (page_in c) ∙ sym (ap (λ (h : Held). h.shape) c.held-held.ensures)
+    own.own_shape (seen c) c.self.inside.memory.items c.self.inside.sizes.items c.self.invariant.kept (c.args.line.0 / 64) (page_in c) ∙ sym (ap (λ (h : Held). h.shape) c.held-held.ensures)
 
 bytes_are : (c : After-held-held) (m : List ℕ) → m ≡ c.self.inside.memory.items → bytes_of m c.held-held.result ≡ bytes_at (seen c).bytes (c.args.line.0 / 64)
 bytes_are c m is =
     ap (λ (x : List ℕ). bytes_of x c.held-held.result) is ∙ ap (bytes_of c.self.inside.memory.items) c.held-held.ensures
-    ∙ sym (own.own_bytes (seen c) c.self.inside.memory.items c.self.inside.sizes.items c.self.invariant (c.args.line.0 / 64) (page_in c))
+    ∙ sym (own.own_bytes (seen c) c.self.inside.memory.items c.self.inside.sizes.items c.self.invariant.kept (c.args.line.0 / 64) (page_in c))
 
 own_sound : (c : After-held-held) (m : List ℕ) → m ≡ c.self.inside.memory.items → IsSoundPage c.self.inside.codec c.held-held.result.shape (bytes_of m c.held-held.result)
 own_sound c m is =
     subst (λ (x : List ℕ). IsSoundPage c.self.inside.codec c.held-held.result.shape (bytes_of x c.held-held.result)) (sym is)
     (subst (λ (h : Held). IsSoundPage c.self.inside.codec h.shape (bytes_of c.self.inside.memory.items h)) (sym c.held-held.ensures)
-    (own.own_sound (seen c) c.self.inside.memory.items c.self.inside.sizes.items c.self.invariant (c.args.line.0 / 64) (page_in c)))
+    (own.own_sound (seen c) c.self.inside.memory.items c.self.inside.sizes.items c.self.invariant.kept (c.args.line.0 / 64) (page_in c)))
 
 within : (c : After-held-held) → IsWithin c.self.inside.memory.items c.held-held.result
-within c = subst (IsWithin c.self.inside.memory.items) (sym c.held-held.ensures) (own.own_within (seen c) c.self.inside.memory.items c.self.inside.sizes.items c.self.invariant (c.args.line.0 / 64) (page_in c))
+within c = subst (IsWithin c.self.inside.memory.items) (sym c.held-held.ensures) (own.own_within (seen c) c.self.inside.memory.items c.self.inside.sizes.items c.self.invariant.kept (c.args.line.0 / 64) (page_in c))
 
 pub returns-then-eq-clause-puts : goal.returns-then-eq-clause-puts
 returns-then-eq-clause-puts c' is_true =
@@ -92,17 +93,24 @@ note-requires c' =
 sized : (c' : After-held-held) (before own_sizes : List ℕ) → before ≡ get_or c'.self.inside.sizes.items (c'.args.line.0 / 64) before → own_sizes ≡ set before (c'.args.line.0 % 64) (kept_size c'.self.inside.codec c'.args.from.now)
     → own_sizes ≡ kept_sizes c'.self.inside.codec (set (page_of (seen c').lines (c'.args.line.0 / 64)) (c'.args.line.0 % 64) c'.args.from.now)
 sized c before own_sizes read is =
-    own.sizes_with (seen c) c.self.inside.memory.items c.self.inside.sizes.items c.self.invariant (c.args.line.0 / 64) (c.args.line.0 % 64) c.args.from.now before own_sizes (page_in c) read is
+    own.sizes_with (seen c) c.self.inside.memory.items c.self.inside.sizes.items c.self.invariant.kept (c.args.line.0 / 64) (c.args.line.0 % 64) c.args.from.now before own_sizes (page_in c) read is
 
 pub invariant_of-self-2 : goal.invariant_of-self-2
 invariant_of-self-2 c' =
     let r = (goal.at.invariant_of-self-2 c').After-put in
     let c = (goal.at.invariant_of-self-2 c').After-held-held in
     let done : r.put.result ≡ Done = search rules in
-    own.kept_put (seen c) c.self.inside.memory.items c.self.inside.sizes.items c.self.invariant (c.args.line.0 / 64) (page_in c) (c.args.line.0 % 64) (omega arith) c.args.from.now
+    let seen_put = own.seen_put (seen c) c.self.inside.memory.items c.self.inside.sizes.items c.self.invariant.kept (c.args.line.0 / 64) (page_in c) (c.args.line.0 % 64) (omega arith) c.args.from.now
     c.held-held.result c.held-held.ensures r.deref_mut.result.now r.put.new.memory _ r.deref_mut.ensures.value (back r)
-    r.put.ensures.changes r.put.ensures.sound (r.put.ensures.content done) c'.note.new.meta c'.deref.result.now c'.set.new.self c'.deref.ensures.value c'.note.ensures
-    (sized c c'.index_mut.result.now c'.set.new.self c'.index_mut.ensures.value c'.set.ensures)
+    r.put.ensures.changes r.put.ensures.sound (r.put.ensures.content done) c'.note.new.meta c'.deref.result.now c'.deref.ensures.value c'.note.ensures in
+    record {
+      kept = own.kept_put (seen c) c.self.inside.memory.items c.self.inside.sizes.items c.self.invariant.kept (c.args.line.0 / 64) (page_in c) (c.args.line.0 % 64) (omega arith) c.args.from.now
+          c.held-held.result c.held-held.ensures r.deref_mut.result.now r.put.new.memory _ r.deref_mut.ensures.value (back r)
+          r.put.ensures.changes r.put.ensures.sound (r.put.ensures.content done) c'.note.new.meta c'.deref.result.now c'.set.new.self c'.deref.ensures.value c'.note.ensures
+          (sized c c'.index_mut.result.now c'.set.new.self c'.index_mut.ensures.value c'.set.ensures);
+      strays_are = strays_put (seen c) _ c.self.inside.strays c'.put-2.new.self (c.args.line.0 / 64) (c.args.line.0 % 64) c.args.from.now _ _ c.self.invariant.kept.sound (page_in c) (omega arith)
+          c.self.invariant.strays_are c'.put-2.ensures seen_put;
+    }
 
 pub returns-clause-puts : goal.returns-clause-puts
 returns-clause-puts c' e =
@@ -111,7 +119,7 @@ returns-clause-puts c' e =
     let done : r.put.result ≡ Done = search rules in
     let not_zero : c.held-held.result.shape ≢ Zero = search rules in
     let here = bytes_are c r.deref_mut.result.now r.deref_mut.ensures.value in
-    let seen_put = own.seen_put (seen c) c.self.inside.memory.items c.self.inside.sizes.items c.self.invariant (c.args.line.0 / 64) (page_in c) (c.args.line.0 % 64) (omega arith) c.args.from.now
+    let seen_put = own.seen_put (seen c) c.self.inside.memory.items c.self.inside.sizes.items c.self.invariant.kept (c.args.line.0 / 64) (page_in c) (c.args.line.0 % 64) (omega arith) c.args.from.now
     c.held-held.result c.held-held.ensures r.deref_mut.result.now r.put.new.memory _ r.deref_mut.ensures.value (back r)
     r.put.ensures.changes r.put.ensures.sound (r.put.ensures.content done) c'.note.new.meta c'.deref.result.now c'.deref.ensures.value c'.note.ensures in
     inr (rw (← c'.self.view_is) (record {
@@ -133,7 +141,7 @@ returns-then-eq-clause-lines c' is_true =
     let c = (goal.at.returns-then-eq-clause-lines c').After-held-held in
     let packed : c.held-held.result.shape ≡ Zero = search rules in
     let zeros : c'.args.from.now ≡ zero_line = search rules in
-    rw (← c'.self.view_is) (own.zeros_stay (seen c) c.self.inside.memory.items c.self.inside.sizes.items c.self.invariant (c.args.line.0) c.args.from.now (let inside : c.args.line.0 < length (seen c).lines = rw (← c.self.view_is) at c.requires in inside)
+    rw (← c'.self.view_is) (own.zeros_stay (seen c) c.self.inside.memory.items c.self.inside.sizes.items c.self.invariant.kept (c.args.line.0) c.args.from.now (let inside : c.args.line.0 < length (seen c).lines = rw (← c.self.view_is) at c.requires in inside)
     (shape_is c ∙ packed) zeros)
 
 pub returns-clause-lines : goal.returns-clause-lines
@@ -142,7 +150,7 @@ returns-clause-lines c' e =
     let c = (goal.at.returns-clause-lines c').After-held-held in
     let done : r.put.result ≡ Done = search rules in
     let split : 64 * (c.args.line.0 / 64) + c.args.line.0 % 64 ≡ c.args.line.0 = omega arith in
-    let seen_put = own.seen_put (seen c) c.self.inside.memory.items c.self.inside.sizes.items c.self.invariant (c.args.line.0 / 64) (page_in c) (c.args.line.0 % 64) (omega arith) c.args.from.now
+    let seen_put = own.seen_put (seen c) c.self.inside.memory.items c.self.inside.sizes.items c.self.invariant.kept (c.args.line.0 / 64) (page_in c) (c.args.line.0 % 64) (omega arith) c.args.from.now
     c.held-held.result c.held-held.ensures r.deref_mut.result.now r.put.new.memory _ r.deref_mut.ensures.value (back r)
     r.put.ensures.changes r.put.ensures.sound (r.put.ensures.content done) c'.note.new.meta c'.deref.result.now c'.deref.ensures.value c'.note.ensures in
     rw (← c'.self.view_is) (ap (λ (x : Store). x.lines) seen_put ∙ ap (λ (n : ℕ). set (seen c).lines n c.args.from.now) split)

@@ -22,21 +22,21 @@ page_in : (c : After-held-held) → c.args.page < length c.self.inside.blocks.de
 page_in c = rw (← c.self.view_is) at c.requires
 
 shape_is : (c : After-held-held) → c.held-held.result.shape ≡ shape_at (seen c) c.args.page
-shape_is c = ap (λ (h : Held). h.shape) c.held-held.ensures ∙ sym (own.own_shape (seen c) c.self.inside.memory.items c.self.inside.sizes.items c.self.invariant c.args.page (page_in c))
+shape_is c = ap (λ (h : Held). h.shape) c.held-held.ensures ∙ sym (own.own_shape (seen c) c.self.inside.memory.items c.self.inside.sizes.items c.self.invariant.kept c.args.page (page_in c))
 
 sizes_are : (c : After-held-held) → c.index-sizes.result.now ≡ kept_sizes c.self.inside.codec (page_of (seen c).lines c.args.page)
-sizes_are c = own.sizes_at (seen c) c.self.inside.memory.items c.self.inside.sizes.items c.self.invariant c.args.page c.index-sizes.result.now (page_in c) c.index-sizes.ensures
+sizes_are c = own.sizes_at (seen c) c.self.inside.memory.items c.self.inside.sizes.items c.self.invariant.kept c.args.page c.index-sizes.result.now (page_in c) c.index-sizes.ensures
 
 pub lying-requires : goal.lying-requires
 lying-requires c' =
     let c = (goal.at.lying-requires c').After-held-held in
-    subst HasTarget (sym (shape_is c)) (has_target (seen c).codec (shape_at (seen c) c.args.page) _ (c.self.invariant.sound.pages_are c.args.page (page_in c)))
+    subst HasTarget (sym (shape_is c)) (has_target (seen c).codec (shape_at (seen c) c.args.page) _ (c.self.invariant.kept.sound.pages_are c.args.page (page_in c)))
 
 pub returns-clause-value : goal.returns-clause-value
 returns-clause-value c' =
     let c = (goal.at.returns-clause-value c').After-held-held in
     let lines = page_of (seen c).lines c.args.page in
-    let are = lines_of_one (seen c).lines c.args.page c.self.invariant.sound.lines_are in
+    let are = lines_of_one (seen c).lines c.args.page c.self.invariant.kept.sound.lines_are in
     let lies : c'.lying.result ≡ lying (shape_at (seen c) c.args.page) (stored_sizes c.self.inside.codec lines) =
     c'.lying.ensures c.self.inside.codec lines are (sym (sizes_are c)) ∙ ap (λ (f : Shape). lying f (stored_sizes c.self.inside.codec lines)) (shape_is c) in
     rw (← c'.self.view_is) (c'.row.ensures.value lines are (sym (sizes_are c)) ∙ ap (λ (p : PagePlan). row_by p (stored_sizes c.self.inside.codec lines)) lies)
@@ -45,8 +45,8 @@ pub returns-clause-known : goal.returns-clause-known
 returns-clause-known c' =
     let c = (goal.at.returns-clause-known c').After-held-held in
     let lines = page_of (seen c).lines c.args.page in
-    let are = lines_of_one (seen c).lines c.args.page c.self.invariant.sound.lines_are in
+    let are = lines_of_one (seen c).lines c.args.page c.self.invariant.kept.sound.lines_are in
     let lies : c'.lying.result ≡ lying (shape_at (seen c) c.args.page) (stored_sizes c.self.inside.codec lines) =
     c'.lying.ensures c.self.inside.codec lines are (sym (sizes_are c)) ∙ ap (λ (f : Shape). lying f (stored_sizes c.self.inside.codec lines)) (shape_is c) in
     subst (λ (o : Option ℕ). IfSome o (λ k. k ≤ 3)) (sym (c'.row.ensures.order ∙ ap order_of lies))
-    (known_order (seen c).codec (shape_at (seen c) c.args.page) _ _ (c.self.invariant.sound.pages_are c.args.page (page_in c)))
+    (known_order (seen c).codec (shape_at (seen c) c.args.page) _ _ (c.self.invariant.kept.sound.pages_are c.args.page (page_in c)))

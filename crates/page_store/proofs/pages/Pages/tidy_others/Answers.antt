@@ -9,13 +9,13 @@ loop-page-init c = record { tidied = tidied_none c.args.self.now c.args.but; kee
 
 pub tidy_page-requires : goal.tidy_page-requires
 tidy_page-requires c =
-    let counted : length c.self.inside.sizes.items ≡ length c.self.inside.blocks.descriptors = c.self.invariant.counted in
+    let counted : length c.self.inside.sizes.items ≡ length c.self.inside.blocks.descriptors = c.self.invariant.kept.counted in
     let pages : length c.loop-page.self.descriptors ≡ length c.self.inside.blocks.descriptors = rw (← c.self.view_is) at c.loop-page.invariant.keeps.pages_stay in
     omega (arith, counted, pages, c.loop-page-test.true, c.len-page-end.ensures)
 
 pub loop-page-preserved : goal.loop-page-preserved
 loop-page-preserved c =
-    let counted : length c.self.inside.sizes.items ≡ length c.self.inside.blocks.descriptors = c.self.invariant.counted in
+    let counted : length c.self.inside.sizes.items ≡ length c.self.inside.blocks.descriptors = c.self.invariant.kept.counted in
     let pages : length c.loop-page.self.descriptors ≡ length c.self.inside.blocks.descriptors = rw (← c.self.view_is) at c.loop-page.invariant.keeps.pages_stay in
     let within : c.loop-page.page < length c.loop-page.self.descriptors = omega (arith, counted, pages, c.loop-page-test.true, c.len-page-end.ensures) in
     let s = c.args.self.now in
@@ -35,12 +35,12 @@ loop-page-preserved c =
 
 pub returns-clause-tidied : goal.returns-clause-tidied
 returns-clause-tidied c =
-    let counted : length c.self.inside.sizes.items ≡ length c.self.inside.blocks.descriptors = c.self.invariant.counted in
+    let counted : length c.self.inside.sizes.items ≡ length c.self.inside.blocks.descriptors = c.self.invariant.kept.counted in
     let all : c.loop-page.page ≡ length c.args.self.now.descriptors = rw (← c.self.view_is) (omega (arith, counted, c.loop-page-test.false, c.loop-page.auto.page-end, c.len-page-end.ensures)) in
     subst (λ (n : ℕ). TidiedUpTo c.args.self.now c.args.but n c.loop-page.self) all c.loop-page.invariant.tidied
 
 pub returns-clause-at_plan : goal.returns-clause-at_plan
 returns-clause-at_plan c =
-    let counted : length c.self.inside.sizes.items ≡ length c.self.inside.blocks.descriptors = c.self.invariant.counted in
+    let counted : length c.self.inside.sizes.items ≡ length c.self.inside.blocks.descriptors = c.self.invariant.kept.counted in
     let all : c.loop-page.page ≡ length c.args.self.now.descriptors = rw (← c.self.view_is) (omega (arith, counted, c.loop-page-test.false, c.loop-page.auto.page-end, c.len-page-end.ensures)) in
     λ q lt ne. c.loop-page.invariant.at_plan q (omega (arith, all)) ne

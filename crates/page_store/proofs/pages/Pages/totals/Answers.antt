@@ -20,14 +20,14 @@ loop-page-preserved c = record {
 pub returns-clause-lie : goal.returns-clause-lie
 unfolding totals_at
 returns-clause-lie c =
-    let counted : length c.self.inside.sizes.items ≡ length c.self.inside.blocks.descriptors = c.self.invariant.counted in
+    let counted : length c.self.inside.sizes.items ≡ length c.self.inside.blocks.descriptors = c.self.invariant.kept.counted in
     let all : c.loop-page.page ≡ length c.args.self.now.descriptors = rw (← c.self.view_is) (omega (arith, counted, c.loop-page-test.false, c.loop-page.auto.page-end, c.len-page-end.ensures)) in
     c.totals.ensures ∙ c.loop-page.invariant.so_far ∙ ap (λ (n : ℕ). totals_of (tabulate (row_at c.args.self.now) n)) all
 
 pub returns-clause-at_plan : goal.returns-clause-at_plan
 unfolding totals_at
 returns-clause-at_plan c planned =
-    let counted : length c.self.inside.sizes.items ≡ length c.self.inside.blocks.descriptors = c.self.invariant.counted in
+    let counted : length c.self.inside.sizes.items ≡ length c.self.inside.blocks.descriptors = c.self.invariant.kept.counted in
     let all : c.loop-page.page ≡ length c.args.self.now.descriptors = rw (← c.self.view_is) (omega (arith, counted, c.loop-page-test.false, c.loop-page.auto.page-end, c.len-page-end.ensures)) in
-    let sound : IsSound c.args.self.now = rw (← c.self.view_is) c.self.invariant.sound in
+    let sound : IsSound c.args.self.now = rw (← c.self.view_is) c.self.invariant.kept.sound in
     c.totals.ensures ∙ c.loop-page.invariant.so_far ∙ ap (λ (n : ℕ). totals_of (tabulate (row_at c.args.self.now) n)) all ∙ totals_planned c.args.self.now sound planned

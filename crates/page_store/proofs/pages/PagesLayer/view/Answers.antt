@@ -15,13 +15,13 @@ seen c = store_in c.self.inside.codec c.self.inside.memory.items c.self.inside.b
 page_in : (c : After-deref) → c.args.line.0 / 64 < length c.self.inside.blocks.descriptors
 page_in c =
     let inside : c.args.line.0 < length (seen c).lines = rw (← c.self.view_is) at c.requires in
-    omega (arith, inside, c.self.invariant.sound.whole)
+    omega (arith, inside, c.self.invariant.kept.sound.whole)
 
 pub line-requires-clause-within : goal.line-requires-clause-within
 line-requires-clause-within c' =
     let c = (goal.at.line-requires-clause-within c').After-deref in
     subst (λ (m : List ℕ). IsWithin m c.held-held.result) (sym c.deref.ensures.value)
-    (subst (IsWithin c.self.inside.memory.items) (sym c.held-held.ensures) (own.own_within (seen c) c.self.inside.memory.items c.self.inside.sizes.items c.self.invariant (c.args.line.0 / 64) (page_in c)))
+    (subst (IsWithin c.self.inside.memory.items) (sym c.held-held.ensures) (own.own_within (seen c) c.self.inside.memory.items c.self.inside.sizes.items c.self.invariant.kept (c.args.line.0 / 64) (page_in c)))
 
 pub line-requires-clause-sound : goal.line-requires-clause-sound
 line-requires-clause-sound c' =
@@ -29,7 +29,7 @@ line-requires-clause-sound c' =
       c.self.inside.codec,
       subst (λ (m : List ℕ). IsSoundPage c.self.inside.codec c.held-held.result.shape (bytes_of m c.held-held.result)) (sym c.deref.ensures.value)
           (subst (λ (h : Held). IsSoundPage c.self.inside.codec h.shape (bytes_of c.self.inside.memory.items h)) (sym c.held-held.ensures)
-          (own.own_sound (seen c) c.self.inside.memory.items c.self.inside.sizes.items c.self.invariant (c.args.line.0 / 64) (page_in c))),
+          (own.own_sound (seen c) c.self.inside.memory.items c.self.inside.sizes.items c.self.invariant.kept (c.args.line.0 / 64) (page_in c))),
     )
 
 pub returns : goal.returns
@@ -40,7 +40,7 @@ returns c' =
     let page = c.args.line.0 / 64 in
     let i = c.args.line.0 % 64 in
     let split : 64 * (c.args.line.0 / 64) + c.args.line.0 % 64 ≡ c.args.line.0 = omega arith in
-    let at : c.held-held.result ≡ held_at pages (c.args.line.0 / 64) = c.held-held.ensures ∙ sym (own.own_held (seen c) memory c.self.inside.sizes.items c.self.invariant (c.args.line.0 / 64) (page_in c)) in
+    let at : c.held-held.result ≡ held_at pages (c.args.line.0 / 64) = c.held-held.ensures ∙ sym (own.own_held (seen c) memory c.self.inside.sizes.items c.self.invariant.kept (c.args.line.0 / 64) (page_in c)) in
     let read : c'.line.new.into ≡ line_of (held_at pages (c.args.line.0 / 64)).shape (bytes_of memory (held_at pages (c.args.line.0 / 64))) (c.args.line.0 % 64) =
     c'.line.ensures ∙ ap (λ (m : List ℕ). line_of c.held-held.result.shape (bytes_of m c.held-held.result) (c.args.line.0 % 64)) c.deref.ensures.value
     ∙ ap (λ (h : Held). line_of h.shape (bytes_of memory h) (c.args.line.0 % 64)) at in
