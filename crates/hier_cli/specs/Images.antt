@@ -1,20 +1,16 @@
 -- The memory that a run left, as it is printed.
-use Rattle.std.specs.Prelude.{◌≡◌, ℕ, ◌+◌, ◌*◌, ◌++◌, List, [], take, drop, if◌then◌else◌}
+use Rattle.std.specs.Prelude.{ℕ, ◌+◌, ◌*◌, ◌++◌, List, [], take, drop, if◌then◌else◌}
 use Rattle.std.specs.Int.{w32, to_le_bytes}
 use Rattle.std.specs.Str.{bytes_eq}
 use Rattle.hier_types.specs.Lines.{flatten}
 use Rattle.hier_types.specs.Span.{Span}
 use Rattle.hier_types.specs.Tabulate.{tabulate}
 use Rattle.hier_types.specs.declared.settings.Settings.{Settings}
-use Rattle.hier_types.specs.Streams.{AreUntouched, Streams, streams}
-use Rattle.hier_machine.specs.FileRuns.{RunsFile, dropped}
+use Rattle.hier_types.specs.Streams.{Streams}
 use Rattle.hier_machine.specs.Placed.{zero_page}
 use Rattle.hier_machine.specs.State.{MachineState}
-use Rattle.run_report.specs.declared.end.End.{End}
 use Rattle.hier_cli.specs.declared.notice.Notice.{Notice}
-use Rattle.hier_cli.specs.declared.notice.Notice.TheVariants.{Ended, Retired, Reported}
-use Rattle.hier_cli.specs.Notices.{IsPrinted}
-use Rattle.hier_cli.specs.ProgramRuns.{FailsToStart}
+use Rattle.hier_cli.specs.PrintedRuns.{EndsPrinted, RanAndPrinted}
 
 -- the bytes of a page
 abbrev pub page_bytes : List ℕ → ℕ → List ℕ
@@ -28,16 +24,10 @@ text_of_page span page bytes = if bytes_eq bytes zero_page then [] else to_le_by
 abbrev pub image_text : Span → List ℕ → List ℕ
 image_text span bytes = flatten (tabulate (λ page. text_of_page span page (page_bytes bytes page)) span.pages)
 
--- The program ran with its output dropped, and then the memory of the state that it left was printed.
-pub record RanAndPrinted (settings : Settings) (file : List ℕ) (both : Streams) (end : End) (retired : ℕ) : Type 0 where
-  pub last : MachineState
-  pub own : End
-  pub ran : RunsFile settings file (streams both.input dropped) own last
-  pub count : retired ≡ last.guest.retired
-  pub printed : IsPrinted (image_text settings.geometry last.guest.hart.bytes) both.output own end
+-- the memory of a machine
+abbrev pub image_of : Span → MachineState → List ℕ
+image_of span s = image_text span s.guest.hart.bytes
 
 -- how the work on a file's program ends, where the memory that it left is printed
 abbrev pub EndsImage : Settings → Streams → List ℕ → Notice → Type 0
-EndsImage settings both file (Ended end) = FailsToStart settings file end × AreUntouched both
-EndsImage settings both file (Retired end retired) = RanAndPrinted settings file both end retired
-EndsImage settings both file (Reported report) = ⊥
+EndsImage settings both file notice = EndsPrinted (RanAndPrinted (image_of settings.geometry)) settings both file notice

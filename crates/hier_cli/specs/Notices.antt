@@ -5,7 +5,7 @@ use Rattle.hier_types.specs.declared.faults.Failed.{Failed}
 use Rattle.hier_types.specs.declared.settings.Settings.{Settings}
 use Rattle.hier_types.specs.Streams.{FailsToTake, Stream}
 use Rattle.run_report.specs.declared.end.End.{End}
-use Rattle.run_report.specs.declared.end.End.TheVariants.{Done, Exit, Usage, Setting, FileFault, TooLong, BadImage, BadTrace, Trap, Budget, Space, NoRoom, InFault, OutFault, NoteFault, NoMemory, NotBuilt}
+use Rattle.run_report.specs.declared.end.End.TheVariants.{Done, Exit, Usage, Setting, FileFault, TooLong, BadImage, BadTrace, Trap, Budget, Space, NoRoom, InFault, OutFault, NoteFault, NoMemory}
 use Rattle.run_report.specs.Json.{json_text}
 use Rattle.run_report.specs.ReportLines.{CanBeTold, report_text}
 use Rattle.run_report.specs.Texts.{note_text}
@@ -74,7 +74,6 @@ code_of InFault = 210
 code_of OutFault = 211
 code_of NoteFault = 212
 code_of NoMemory = 213
-code_of (NotBuilt part) = 214
 
 -- a result is printed, and the work ends so, or at the output
 abbrev pub IsPrinted : List ℕ → Stream → End → End → Type 0

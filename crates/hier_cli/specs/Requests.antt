@@ -11,13 +11,13 @@ use Rattle.hier_types.specs.Settings.{default_settings}
 use Rattle.hier_types.specs.declared.settings.Settings.{Settings}
 use Rattle.hier_types.specs.Streams.{AreUntouched}
 use Rattle.run_report.specs.declared.end.End.{End}
-use Rattle.run_report.specs.declared.end.End.TheVariants.{Usage, Setting, NoMemory, NotBuilt}
-use Rattle.run_report.specs.declared.end.Part.TheVariants as part
+use Rattle.run_report.specs.declared.end.End.TheVariants.{Usage, Setting, NoMemory}
 use Rattle.hier_cli.specs.declared.notice.Notice.{Notice}
 use Rattle.hier_cli.specs.declared.notice.Notice.TheVariants.{Ended}
 use Rattle.hier_cli.specs.Files.{OnFile, Outside}
 use Rattle.hier_cli.specs.FlatRuns.{EndsFlat}
 use Rattle.hier_cli.specs.Images.{EndsImage}
+use Rattle.hier_cli.specs.Layouts.{EndsLayout}
 use Rattle.hier_cli.specs.ProgramRuns.{EndsRun}
 use Rattle.hier_cli.specs.Surveys.{EndsSurvey, PrintsAlone, demo_file}
 use Rattle.hier_cli.specs.Traces.{EndsTraceFile}
@@ -27,19 +27,15 @@ pub record AskFor (words : List (List ℕ)) (answer : Result Request WordsFault)
   pub matched : AnswersAsMatched words answer
   pub plain : (command file : List ℕ) (options : List Given) → IsPlainSpelling command file options words → Answers (asked (plain_value command file options)) answer
 
--- the command is not built yet, and nothing is done
-abbrev pub IsNotBuilt : Outside → Notice → Type 0
-IsNotBuilt out notice = (notice ≡ Ended (NotBuilt part.Command)) × AreUntouched out.streams
-
 -- what a command does
 abbrev pub Obeys : Command → List ℕ → Settings → Outside → Notice → Type 0
 Obeys Run file settings out notice = OnFile out file (EndsRun settings out.streams) notice
 Obeys Image file settings out notice = OnFile out file (EndsImage settings out.streams) notice
+Obeys Layout file settings out notice = OnFile out file (EndsLayout settings out.streams) notice
 Obeys Flat file settings out notice = OnFile out file (EndsFlat settings out.streams) notice
 Obeys Survey file settings out notice = OnFile out file (EndsSurvey settings out.streams) notice
 Obeys (Gen number) file settings out notice = PrintsAlone (demo_file number) out.streams notice
 Obeys (Demo number) file settings out notice = EndsRun settings out.streams (demo_file number) notice
-Obeys Layout file settings out notice = IsNotBuilt out notice
 Obeys Trace file settings out notice = OnFile out file (EndsTraceFile settings out.streams) notice
 
 -- the end of words that make no request

@@ -9,11 +9,10 @@ ghost use Rattle.hier_types.specs.Streams.{went};
 ghost use Rattle.hier_cli.specs.Images.{EndsImage, image_text, text_of_page};
 ghost use Rattle.hier_cli.specs.Notices.{IsTellable};
 
-use crate::notice::{Notice, end_after};
-use crate::runs::opened;
+use crate::dropped_runs::run_dropped;
+use crate::notice::Notice;
 use hier_machine::Machine;
-use hier_types::{Failed, Geometry, NullSink, PAGE_BYTES, PageNo, Settings, Sink, Source};
-use run_report::End;
+use hier_types::{Failed, Geometry, PAGE_BYTES, PageNo, Settings, Sink, Source};
 use std::alloc::Global;
 
 /// Runs the program in a file with its output dropped, and prints the pages that are not zero then, in rising order.
@@ -28,18 +27,12 @@ pub(crate) fn run_for_image<I: Source, O: Sink>(
     ensures ends { EndsImage settings.now (went I.left I.faults O.written O.faults input.old input.new out.old out.new) file.items result }
     ensures tellable { IsTellable result }
 {
-    let mut machine = match opened(alloc, file, settings) {
-        Ok(machine) => machine,
+    let ran = match run_dropped(alloc, file, settings, input) {
+        Ok(ran) => ran,
         Err(end) => return Notice::Ended(end),
     };
-    let end = machine.run(input, &mut NullSink);
-    let own = machine.told(end);
-    let retired = machine.retired();
-    let printed = print_pages(&machine, settings.geometry, out);
-    Notice::Retired {
-        end: end_after(own, End::OutFault, printed),
-        retired,
-    }
+    let printed = print_pages(&ran.machine, settings.geometry, out);
+    ran.notice(printed)
 }
 
 /// Prints each page that is not zero behind its address.

@@ -3,8 +3,10 @@
 #![tactic(auto)]
 
 mod adapters;
+mod dropped_runs;
 mod flat_runs;
 mod images;
+mod layouts;
 mod notice;
 mod runs;
 mod status;

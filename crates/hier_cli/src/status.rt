@@ -34,7 +34,6 @@ impl Status {
             End::OutFault => 211,
             End::NoteFault => 212,
             End::NoMemory => 213,
-            End::NotBuilt { .. } => 214,
         };
         Status { end, code }
     }

@@ -60,7 +60,7 @@ impl Failing {
 }
 
 /// The bytes that an output and a note in memory take.
-const ROOM: usize = 32_768;
+const ROOM: usize = 262_144;
 
 /// What the program left, run on the words with the file `a`.
 #[derive(Drop)]

@@ -9,13 +9,14 @@ ghost use Rattle.hier_cli.specs.Top.{Finishes};
 
 use crate::flat_runs::run_flat;
 use crate::images::run_for_image;
+use crate::layouts::run_for_layout;
 use crate::notice::{Notice, write_notice};
 use crate::runs::{run_demo, run_file};
 use crate::status::Status;
 use crate::surveys::{survey_file, write_demo};
 use crate::traces::run_trace;
 use hier_types::{Settings, Shelf, ShelfFault, Sink, Source};
-use run_report::{End, Part};
+use run_report::End;
 use sim_words::{Command, Request, WordsFault, read_words};
 use std::alloc::Global;
 use std::thread::Threads;
@@ -55,6 +56,13 @@ fn obey<R: Threads + Sync, S: Shelf, I: Source, O: Sink>(
     match request.command {
         Command::Run => Ok(run_file(alloc, load(alloc, shelf, name)?, settings, input, out)),
         Command::Image => Ok(run_for_image(alloc, load(alloc, shelf, name)?, settings, input, out)),
+        Command::Layout => Ok(run_for_layout(
+            alloc,
+            load(alloc, shelf, name)?,
+            settings,
+            input,
+            out,
+        )),
         Command::Flat => Ok(run_flat(alloc, load(alloc, shelf, name)?, settings, input, out)),
         Command::Survey => Ok(survey_file(
             rt,
@@ -66,9 +74,6 @@ fn obey<R: Threads + Sync, S: Shelf, I: Source, O: Sink>(
         Command::Gen { number } => Ok(write_demo(alloc, number, out)),
         Command::Demo { number } => Ok(run_demo(alloc, number, settings, input, out)),
         Command::Trace => Ok(run_trace(alloc, load(alloc, shelf, name)?, settings, input, out)),
-        Command::Layout => Err(End::NotBuilt {
-            part: Part::Command,
-        }),
     }
 }
 

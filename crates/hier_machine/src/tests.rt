@@ -1,8 +1,10 @@
 use super::*;
 use elf_image::read_image;
 use hier_types::{
-    Access, Beat, BeatWord, BytesSource, Geometry, NoSpace, NullSink, PageNo, Settings,
+    Access, Beat, BeatWord, BytesSource, Codec, Geometry, NoSpace, NullSink, PageNo, Settings,
 };
+use line_codec::stored_size;
+use page_slots::{PlaceKind, PlaceRow};
 use run_report::{End, Settled};
 use std::alloc::Global;
 use std::test::Fail;
@@ -219,6 +221,51 @@ fn what_was_stored_settles_and_stays(rt: HostRuntime) -> Result<(), Fail> {
     let mut after = [7; 4096];
     machine.view_page(PageNo(1), &mut after);
     assert_eq!(rt; after, before);
+    Ok(())
+}
+
+/// How many lines of a page, whose slots have four bytes, stand where their stored size asks for it.
+fn suiting(machine: &Machine, page: u32) -> u32
+    requires { page < machine.now.memory.span.pages }
+{
+    let mut bytes = [0; 4096];
+    machine.view_page(PageNo(page), &mut bytes);
+    let mut count = 0;
+    for number in 0..64u8 {
+        let mut line = [0; 64];
+        let at = 64 * number as usize;
+        line.copy_from_slice(&bytes[at..at + 64]);
+        let (kind, used) = match stored_size(Codec::Bdi, &line) {
+            Some(size) if size <= 4 => (PlaceKind::Slot, size),
+            _ => (PlaceKind::Exception, 64),
+        };
+        let stands = |row: PlaceRow| (row.line, row.kind, row.used)
+            == (number, kind, u16::from(used));
+        if machine
+            .pages()
+            .layout_row(PageNo(page), number + 2)
+            .is_some_and(stands)
+        {
+            count += 1;
+        }
+    }
+    count
+}
+
+/// The program's line and two that it stored take chunks of their own. The other lines are zeros.
+#[test]
+fn lines_stand_as_their_sizes_ask(rt: HostRuntime) -> Result<(), Fail> {
+    let alloc = rt.alloc();
+    let settings = sized(4, 4, &[Beat::Hart], 11)?;
+    let mut machine = opened(alloc, &STORING, &settings)?;
+    let mut input = BytesSource::new(Vec::new(alloc), Vec::new(alloc));
+    assert_eq!(rt; machine.run(&mut input, &mut NullSink), MachineEnd::Budget);
+    assert!(rt; machine.settle().is_ok());
+    assert_eq!(rt; (suiting(&machine, 0), suiting(&machine, 1)), (64, 64));
+    assert_eq!(rt;
+        (suiting(&machine, 2), machine.pages().base_of(PageNo(2))),
+        (0, None)
+    );
     Ok(())
 }
 

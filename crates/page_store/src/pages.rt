@@ -31,17 +31,16 @@ use std::marker::Model;
 
 /// A memory of 1 to 65,536 pages of 64 lines, in frames of 4,096 bytes. Each page that is not zero has its bytes in its
 /// block: its metadata, slots and exceptions, or its lines one after another. Beside them stands one byte a line for what
-/// it takes in a slot, and a cache has the metadata of the pages that were looked up last. No call but `new` takes memory.
-/// A call that changes lines is refused only where every other page is at its plan, which is the least layout under the
-/// codec, and no place of the frames is free for the page that it changes; never where there are at least as many frames
-/// as pages.
+/// it takes in a slot, and a bit for each page that may be off its least layout under the codec, which is its plan. A cache
+/// has the metadata of the pages that were looked up last. No call but `new` takes memory. A call that changes lines is
+/// refused only where every other page is at its plan, and no place of the frames is free for the page that it changes;
+/// never where there are at least as many frames as pages.
 #[derive(Drop)]
 pub struct Pages {
     codec: Codec,
     memory: Vec<u8>,
     blocks: Blocks,
     sizes: Vec<PageSizes>,
-    /// The pages that may be off their plan.
     strays: NumberSet,
     meta: MetaCache,
     counts: PageCounts,

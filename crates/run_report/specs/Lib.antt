@@ -1,4 +1,5 @@
 pub mod Json
+pub mod LayoutLines
 pub mod ReportLines
 pub mod TextLines
 pub mod Texts

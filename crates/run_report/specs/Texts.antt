@@ -9,9 +9,7 @@ use Rattle.hier_types.specs.declared.settings.SettingName.TheVariants as setting
 use Rattle.trace_reader.specs.declared.fault.TraceKind.{TraceKind}
 use Rattle.trace_reader.specs.declared.fault.TraceKind.TheVariants as row
 use Rattle.run_report.specs.declared.end.End.{End}
-use Rattle.run_report.specs.declared.end.End.TheVariants.{Done, Exit, Usage, Setting, FileFault, TooLong, BadImage, BadTrace, Trap, Budget, Space, NoRoom, InFault, OutFault, NoteFault, NoMemory, NotBuilt}
-use Rattle.run_report.specs.declared.end.Part.{Part}
-use Rattle.run_report.specs.declared.end.Part.TheVariants.{Command}
+use Rattle.run_report.specs.declared.end.End.TheVariants.{Done, Exit, Usage, Setting, FileFault, TooLong, BadImage, BadTrace, Trap, Budget, Space, NoRoom, InFault, OutFault, NoteFault, NoMemory}
 
 -- the hexadecimal digit of a number below 16: 0 to 9, and then a to f
 abbrev pub hex_digit : ℕ → ℕ
@@ -77,10 +75,6 @@ abbrev pub header_text : Option ℕ → List ℕ
 header_text None = codes "-"
 header_text (Some number) = decimal number
 
--- the word of what is not built
-abbrev pub part_name : Part → List ℕ
-part_name Command = codes "command"
-
 -- a count behind a space
 abbrev pub count_text : ℕ → List ℕ
 count_text count = codes " " ++ decimal count
@@ -106,7 +100,6 @@ end_text InFault = codes "input failed"
 end_text OutFault = codes "output failed"
 end_text NoteFault = []
 end_text NoMemory = codes "no memory"
-end_text (NotBuilt part) = codes "not built " ++ part_name part
 
 -- the line feed that each line ends with
 abbrev pub line_feed : List ℕ

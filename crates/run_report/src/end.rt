@@ -8,13 +8,6 @@ use hier_types::{Geometry, NoSpace, PAGE_BYTES, PageNo, SettingName};
 use rv_core::Trap;
 use trace_reader::TraceFault;
 
-/// What is not built yet.
-#[derive(Clone, Copy, Debug, PartialEq, Eq)]
-pub enum Part {
-    /// The command that the words name.
-    Command,
-}
-
 /// How the work ends.
 #[derive(Clone, Copy, Debug, PartialEq, Eq)]
 pub enum End {
@@ -69,10 +62,6 @@ pub enum End {
     NoteFault,
     /// Memory ran out.
     NoMemory,
-    /// The words ask for what is not built yet.
-    NotBuilt {
-        part: Part,
-    },
 }
 
 impl End {

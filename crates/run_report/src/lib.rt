@@ -5,6 +5,7 @@
 
 mod end;
 mod json;
+mod layout_lines;
 mod lines;
 mod names;
 mod note;
@@ -16,8 +17,9 @@ mod tests;
 mod text_line;
 mod totals;
 
-pub use end::{End, Part};
+pub use end::End;
 pub use json::to_json;
+pub use layout_lines::write_place;
 pub use note::write_end;
 pub use report::{Counts, Report, Settled};
 pub use report_lines::write_text;

@@ -1,8 +1,7 @@
-// The words for what is wrong with a file or a setting, and for what is not built.
+// The words for what is wrong with a file or a setting.
 ghost use Rattle.std.specs.Prelude.{◌≡◌, ◌≤◌, length};
 ghost use Rattle.run_report.specs.Texts as texts;
 
-use crate::end::Part;
 use elf_image::ImageKind;
 use hier_types::SettingName;
 use trace_reader::TraceKind;
@@ -69,15 +68,5 @@ pub(crate) fn setting_name(name: SettingName) -> &'static str
         SettingName::Budget => "budget",
         SettingName::Beats => "beats",
         SettingName::Number => "number",
-    }
-}
-
-/// The word of what is not built.
-pub(crate) fn part_name(part: Part) -> &'static str
-    ensures name { result.now ≡ texts.part_name part }
-    ensures short { length result.now ≤ 7 }
-{
-    match part {
-        Part::Command => "command",
     }
 }

@@ -9,7 +9,7 @@ ghost use Rattle.run_report.specs.Texts as texts;
 
 use crate::end::End;
 use crate::lines::write_lines;
-use crate::names::{kind_name, part_name, setting_name, trace_kind_name};
+use crate::names::{kind_name, setting_name, trace_kind_name};
 use crate::text_line::TextLine;
 use elf_image::ImageFault;
 use hier_types::{Failed, Sink};
@@ -78,10 +78,6 @@ pub(crate) fn put_end(line: &mut TextLine, end: &End)
         End::OutFault => line.word("output failed"),
         End::NoteFault => unreachable!(),
         End::NoMemory => line.word("no memory"),
-        End::NotBuilt { part } => {
-            line.word("not built ");
-            line.word(part_name(*part));
-        }
     }
 }
 

@@ -1,5 +1,6 @@
 // Tests of the lines and of JSON.
 mod ends;
+mod layouts;
 mod reports;
 mod surveys;
 

@@ -80,6 +80,17 @@ impl TextLine {
         self.number(n);
     }
 
+    /// Appends a number below 100 in two decimal digits.
+    pub(crate) fn two_digits(&mut self, n: u8)
+        requires below { n < 100 }
+        requires room { array_string_len self.old.text + 2 ≤ 192 }
+        ensures text { self.new.text.bytes ≡ self.old.text.bytes ++ (48 + n / 10) ∷ (48 + n % 10) ∷ [] }
+        ensures len { array_string_len self.new.text ≡ array_string_len self.old.text + 2 }
+    {
+        self.text.push((b'0' + n / 10) as char);
+        self.text.push((b'0' + n % 10) as char);
+    }
+
     /// Appends a number in eight hexadecimal digits.
     pub(crate) fn address(&mut self, n: u32)
         requires room { array_string_len self.old.text + 8 ≤ 192 }

@@ -1,7 +1,6 @@
 // Each command, on its happy path and on words that are refused.
 use super::*;
 use hier_types::SettingName;
-use run_report::Part;
 use rv_asm::demo_program;
 
 /// The output of the program that is generated from 7: the fold of its words, by the definition of its format.
@@ -105,6 +104,55 @@ fn images_whose_output_fails(rt: HostRuntime) -> Result<(), Fail> {
     Ok(())
 }
 
+/// The text of the layout of `EXIT_THREE`: the block, the metadata, the program's line in a chunk behind the slots, and
+/// 63 lines of zeros in slots of four bytes.
+fn layout_of_exit_three(alloc: Global) -> Result<String, Fail> {
+    let mut text = String::from_str(
+        alloc,
+        "00010000 -- b 00000000 512 512\n00010000 -- m 00000000 64 64\n00010000 00 x 00000140 64 64\n",
+    )?;
+    for line in 1..64u32 {
+        let at = 64 + 4 * line;
+        let row = format!(in alloc; "00010000 {line:02} s {at:08x} 4 2\n")?;
+        text.push_str(&row)?;
+    }
+    Ok(text)
+}
+
+/// The layout is that of the one page of the program, whether it ran or not.
+#[test]
+fn layouts(rt: HostRuntime) -> Result<(), Fail> {
+    let alloc = rt.alloc();
+    let text = layout_of_exit_three(alloc)?;
+    let cases: [(&[&str], &str); 2] = [
+        (&["layout", "a"], "end exit 3\nretired 3\n"),
+        (&["layout", "a", "--budget", "0"], "end budget\nretired 0\n"),
+    ];
+    for (words, note) in cases {
+        let left = run_words(&rt, alloc, words, &EXIT_THREE, Failing::nowhere(alloc))?;
+        assert_eq!(rt; left.output.as_slice(), text.as_bytes());
+        assert_eq!(rt; left.note.as_slice(), note.as_bytes());
+    }
+    Ok(())
+}
+
+/// The third row fails behind its first seven bytes, and none follows it.
+#[test]
+fn layouts_whose_output_fails(rt: HostRuntime) -> Result<(), Fail> {
+    let alloc = rt.alloc();
+    let mut failing = Failing::nowhere(alloc);
+    failing.output.push((2, 7))?;
+    let left = run_words(&rt, alloc, &["layout", "a"], &EXIT_THREE, failing)?;
+    let text = layout_of_exit_three(alloc)?;
+    assert_eq!(rt; (left.status.end, left.output.len()), (End::OutFault, 67));
+    assert!(rt; text.as_bytes().starts_with(&left.output));
+    assert_eq!(rt;
+        left.note.as_slice(),
+        b"end output failed\nretired 3\n".as_slice()
+    );
+    Ok(())
+}
+
 /// The generated program fills and reads 256 KiB, and folds them to a word.
 #[test]
 fn generated_programs(rt: HostRuntime) -> Result<(), Fail> {
@@ -162,7 +210,7 @@ fn words_that_are_refused(rt: HostRuntime) -> Result<(), Fail> {
     let alloc = rt.alloc();
     let usage = (End::Usage, "end usage: hiersim COMMAND FILE [options]\n");
     let setting = |name| End::Setting { name };
-    let cases: [(&[&str], (End, &str)); 10] = [
+    let cases: [(&[&str], (End, &str)); 9] = [
         (&[], usage),
         (&["run"], usage),
         (&["--help"], usage),
@@ -182,15 +230,6 @@ fn words_that_are_refused(rt: HostRuntime) -> Result<(), Fail> {
         (
             &["run", "a", "--beats", "mmc"],
             (setting(SettingName::Beats), "end bad setting beats\n"),
-        ),
-        (
-            &["layout", "a"],
-            (
-                End::NotBuilt {
-                    part: Part::Command,
-                },
-                "end not built command\n",
-            ),
         ),
         (&["run", "b"], (End::FileFault, "end file failed\n")),
     ];

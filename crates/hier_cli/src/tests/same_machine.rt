@@ -8,7 +8,8 @@ use super::traces::{OUT_AND_BACK, SMALL_CACHES, TWELVE_PAGES, trace, trace_words
 use super::*;
 use crate::notice::{Notice, write_notice};
 use hier_machine::{Machine, MachineEnd, open_file};
-use hier_types::{Access, Geometry, NoSpace, NullSink, Settings};
+use hier_types::{Access, Geometry, NoSpace, NullSink, PageNo, Settings};
+use run_report::write_place;
 use rv_asm::demo_program;
 use sim_words::read_words;
 
@@ -182,6 +183,46 @@ fn the_demo_is_of_one_machine(rt: HostRuntime) -> Result<(), Fail> {
         Failing::nowhere(alloc),
     )?;
     assert_eq!(rt; run.note.as_slice(), own.as_slice());
+    Ok(())
+}
+
+/// The places that a machine's pages have.
+fn places_of(alloc: Global, machine: &Machine, geometry: Geometry) -> Result<Vec<u8>, Fail> {
+    let mut out = BytesSink::new(alloc, ROOM, Vec::new(alloc))
+        .ok()
+        .ok_or("no memory")?;
+    for number in 0..geometry.pages {
+        let page = PageNo(number);
+        let Some(base) = machine.pages().base_of(page) else {
+            continue;
+        };
+        for index in 0..66u8 {
+            if let Some(place) = machine.pages().layout_row(page, index) {
+                write_place(geometry, page, base, &place, &mut out)
+                    .ok()
+                    .ok_or("no room")?;
+            }
+        }
+    }
+    Ok(Vec::from_slice(alloc, out.bytes())?)
+}
+
+/// The layout that the program generated from 7 leaves, whose 65 pages are written down from small caches.
+#[test]
+fn the_layout_is_of_one_machine(rt: HostRuntime) -> Result<(), Fail> {
+    let alloc = rt.alloc();
+    let words = ["layout", "a", "--l1-sets", "4", "--l2-sets", "16"];
+    let settings = settings_of(alloc, &words)?;
+    let file = demo_program(alloc, 7).ok().ok_or("no memory")?;
+    let mut machine = open_file(alloc, file, &settings).ok().ok_or("no machine")?;
+    let mut input = BytesSource::new(Vec::from_slice(alloc, &[1, 2])?, Vec::new(alloc));
+    go_round(&mut machine, &settings, &mut input);
+    let own = places_of(alloc, &machine, settings.geometry)?;
+    let file = demo_program(alloc, 7).ok().ok_or("no memory")?;
+    let left = run_on(&rt, alloc, &words, file, Failing::nowhere(alloc))?;
+    let rows = own.iter().filter(|byte| **byte == b'\n').count();
+    assert!(rt; rows > 4_000);
+    assert_eq!(rt; left.output.as_slice(), own.as_slice());
     Ok(())
 }
 

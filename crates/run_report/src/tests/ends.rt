@@ -1,6 +1,6 @@
 // The line of each end, and the addresses of refused pages.
 use super::note;
-use crate::{End, Part, hex_digit, write_end};
+use crate::{End, hex_digit, write_end};
 use elf_image::{ImageFault, ImageKind};
 use hier_types::{Failed, Geometry, NoSpace, PageNo, SettingName, Sink};
 use rv_core::Trap;
@@ -77,12 +77,6 @@ fn each_end_has_its_line(rt: HostRuntime) -> Result<(), Fail> {
         (End::InFault, "end input failed\n"),
         (End::OutFault, "end output failed\n"),
         (End::NoMemory, "end no memory\n"),
-        (
-            End::NotBuilt {
-                part: Part::Command,
-            },
-            "end not built command\n",
-        ),
     ] {
         prove!(end != End::NoteFault);
         let mut note = note(alloc, Vec::new(alloc))?;
