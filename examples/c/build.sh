@@ -1,6 +1,7 @@
 #!/bin/sh
 # Builds the C programs of this folder for RV32IM, each as NAME.elf beside this folder, with riscv64-unknown-elf-gcc or,
 # where that is not installed, with clang and ld.lld. Where neither is there it says so, and leaves the files as they are.
+# Then it runs each of them, and compares what it prints and its status with those under qemu-riscv32 where that is there.
 set -e
 folder=$(cd "$(dirname "$0")" && pwd)
 objects=$(mktemp -d)
@@ -18,15 +19,23 @@ compile() {
     fi
 }
 
+outcome() {
+    status=0
+    printf 'one three eleven two\n' | "$@" || status=$?
+    echo "exit $status"
+}
+
 if ! command -v riscv64-unknown-elf-gcc >/dev/null && ! { command -v clang && command -v ld.lld; } >/dev/null; then
     echo "no compiler for RISC-V is installed: nothing was built"
     exit 0
 fi
-for program in copy words; do
-    compile "$folder/$program.c" "$folder/../$program.elf"
+for program in copy words list matrix text noise; do
+    elf=$folder/../$program.elf
+    compile "$folder/$program.c" "$elf"
     echo "built examples/$program.elf"
+    outcome "$folder/../../hiersim" run "$elf" --json | tee "$objects/outcome"
+    if command -v qemu-riscv32 >/dev/null && ! outcome qemu-riscv32 "$elf" | cmp - "$objects/outcome"; then
+        echo "examples/$program.elf does otherwise under qemu-riscv32"
+        exit 1
+    fi
 done
-printf 'one three eleven two\n' | "$folder/../../hiersim" run "$folder/../words.elf"
-if command -v qemu-riscv32 >/dev/null; then
-    printf 'one three eleven two\n' | qemu-riscv32 "$folder/../words.elf"
-fi

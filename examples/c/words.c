@@ -1,5 +1,6 @@
 // Counts the words of its input on a heap that grows, and prints the longest one and the number of all.
 #include "calls.h"
+#include "print.h"
 
 static char *text;
 static unsigned length;
@@ -13,16 +14,6 @@ static void read_all(void) {
         if (count <= 0) break;
         length += count;
     }
-}
-
-static void print_number(unsigned number) {
-    char digits[10];
-    unsigned place = sizeof digits;
-    do {
-        digits[--place] = '0' + number % 10;
-        number /= 10;
-    } while (number != 0);
-    write_bytes(digits + place, sizeof digits - place);
 }
 
 int main(void) {
