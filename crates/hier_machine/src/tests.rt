@@ -1,10 +1,8 @@
 use super::*;
 use elf_image::read_image;
 use hier_types::{
-    Access, Beat, BeatWord, BytesSource, Codec, Geometry, NoSpace, NullSink, PageNo, Settings,
+    Access, Beat, BeatWord, BytesSource, Geometry, NoSpace, NullSink, PageNo, Settings,
 };
-use line_codec::stored_size;
-use page_slots::PlaceKind;
 use run_report::{End, Settled};
 use std::alloc::Global;
 use std::test::Fail;
@@ -221,57 +219,6 @@ fn what_was_stored_settles_and_stays(rt: HostRuntime) -> Result<(), Fail> {
     let mut after = [7; 4096];
     machine.view_page(PageNo(1), &mut after);
     assert_eq!(rt; after, before);
-    Ok(())
-}
-
-/// The kind of place that a line asks for where slots have four bytes, and the bytes that it uses there.
-fn asked_place(line: &[u8; 64]) -> (PlaceKind, u16) {
-    match stored_size(Codec::Bdi, line) {
-        Some(size) if size <= 4 => (PlaceKind::Slot, u16::from(size)),
-        _ => (PlaceKind::Exception, 64),
-    }
-}
-
-/// Whether a line of a page stands where its bytes ask for it.
-fn stands_right(machine: &Machine, page: PageNo, bytes: &[u8; 4096], number: u8) -> bool
-    requires { number < 64 }
-{
-    let mut line = [0; 64];
-    let at = 64 * number as usize;
-    line.copy_from_slice(&bytes[at..at + 64]);
-    let (kind, used) = asked_place(&line);
-    match machine.pages().layout_row(page, number + 2) {
-        None => false,
-        Some(row) => row.line == number && row.kind == kind && row.used == used,
-    }
-}
-
-/// Whether all lines of a page do.
-fn all_stand_right(machine: &Machine, page: u32) -> bool
-    requires { page < machine.now.memory.span.pages }
-{
-    let mut bytes = [0; 4096];
-    machine.view_page(PageNo(page), &mut bytes);
-    for number in 0..64u8 {
-        if !stands_right(machine, PageNo(page), &bytes, number) {
-            return false;
-        }
-    }
-    true
-}
-
-/// The program's line and two that it stored take chunks of their own. The other lines are zeros.
-#[test]
-fn lines_stand_as_their_sizes_ask(rt: HostRuntime) -> Result<(), Fail> {
-    let alloc = rt.alloc();
-    let settings = sized(4, 4, &[Beat::Hart], 11)?;
-    let mut machine = opened(alloc, &STORING, &settings)?;
-    let mut input = BytesSource::new(Vec::new(alloc), Vec::new(alloc));
-    assert_eq!(rt; machine.run(&mut input, &mut NullSink), MachineEnd::Budget);
-    assert!(rt; machine.settle().is_ok());
-    assert!(rt; all_stand_right(&machine, 0));
-    assert!(rt; all_stand_right(&machine, 1));
-    assert_eq!(rt; machine.pages().base_of(PageNo(2)), None);
     Ok(())
 }
 
