@@ -29,7 +29,7 @@ def processes():
         try:
             words = (entry / "cmdline").read_text().split("\0")
             fields = (entry / "stat").read_text().rsplit(")", 1)[1].split()
-            yield entry.name, fields[19], words, os.readlink(entry / "cwd"), sum(map(int, fields[11:15])) / TICKS
+            yield entry.name, fields[19], words, os.readlink(entry / "cwd"), sum(map(int, fields[11:13])) / TICKS
         except OSError:
             continue
 
