@@ -1,10 +1,11 @@
 -- What the bytes of a page's lines say: the stored sizes of the lines, and whether the page is zero.
-use Rattle.std.proofs.Common.{◌≡◌, ◌≤◌, ◌+◌, ◌∙◌, ℕ, suc, zero, false, cond, List, [], ◌∷◌, Option, Some, None, length, inl, inr, refl, sym, ap, arith}
+use Rattle.std.proofs.Common.{◌≡◌, ◌≤◌, ◌+◌, ◌∙◌, ℕ, suc, zero, false, cond, List, [], ◌∷◌, Option, Some, None, length, take, drop, inl, inr, refl, sym, ap, arith}
 use Rattle.std.specs.Prelude.{replicate, unwrap_or}
 use Rattle.std.specs.Str.{bytes_eq}
 use Rattle.std.proofs.lemmas.Bool.{cases_Bool}
 use Rattle.std.proofs.lemmas.Bool.Decides.{nat_tests}
-use Rattle.std.proofs.lemmas.List.Elements.{All-head, All-tail, All-nil, All-cons}
+use Rattle.std.proofs.lemmas.List.{take-map, drop-map}
+use Rattle.std.proofs.lemmas.List.Elements.{All-head, All-tail, All-nil, All-cons, All-take, All-drop}
 use Rattle.std.proofs.lemmas.List.Sums.{sum_by-cons}
 use Rattle.std.proofs.lemmas.Slice.Eq.{bytes_eq-Decides}
 use Rattle.hier_types.specs.Lines.{AreLines, zero_line}
@@ -90,6 +91,31 @@ exceptions_of-kept codec (line ∷ lines) t whole target =
     ∙ ap (λ b. cond b 1 0 + exceptions_of (sizes_told (Some 1) (kept_sizes codec lines)) t) first
     ∙ ap (λ n. cond (is_exception t (stored codec line)) 1 0 + n) rest
     ∙ sym (sum_by-cons counts (stored codec line) (stored_sizes codec lines))
+
+-- the same of the lines below one, and of those from it on
+pub told-front : (codec : Codec) (lines : List (List ℕ)) (at : ℕ) → AreLines lines → sizes_told (stored codec zero_line) (take at (kept_sizes codec lines)) ≡ take at (stored_sizes codec lines)
+told-front codec lines at whole =
+    ap (sizes_told (stored codec zero_line)) (take-map (kept_size codec) at lines) ∙ sizes_told-stored codec (take at lines) (All-take (λ l. length l ≡ 64) at lines whole)
+    ∙ sym (take-map (λ line. stored codec line) at lines)
+
+pub told-back : (codec : Codec) (lines : List (List ℕ)) (at : ℕ) → AreLines lines → sizes_told (stored codec zero_line) (drop at (kept_sizes codec lines)) ≡ drop at (stored_sizes codec lines)
+told-back codec lines at whole =
+    ap (sizes_told (stored codec zero_line)) (drop-map (kept_size codec) at lines) ∙ sizes_told-stored codec (drop at lines) (All-drop (λ l. length l ≡ 64) at lines whole)
+    ∙ sym (drop-map (λ line. stored codec line) at lines)
+
+pub exceptions-front : (codec : Codec) (lines : List (List ℕ)) (at t : ℕ) → AreLines lines → IsTarget t
+    → exceptions_of (sizes_told (Some 1) (take at (kept_sizes codec lines))) t ≡ exceptions_of (take at (stored_sizes codec lines)) t
+exceptions-front codec lines at t whole target =
+    ap (λ (bytes : List ℕ). exceptions_of (sizes_told (Some 1) bytes) t) (take-map (kept_size codec) at lines)
+    ∙ exceptions_of-kept codec (take at lines) t (All-take (λ l. length l ≡ 64) at lines whole) target
+    ∙ ap (λ (sizes : List (Option ℕ)). exceptions_of sizes t) (sym (take-map (λ line. stored codec line) at lines))
+
+pub exceptions-back : (codec : Codec) (lines : List (List ℕ)) (at t : ℕ) → AreLines lines → IsTarget t
+    → exceptions_of (sizes_told (Some 1) (drop at (kept_sizes codec lines))) t ≡ exceptions_of (drop at (stored_sizes codec lines)) t
+exceptions-back codec lines at t whole target =
+    ap (λ (bytes : List ℕ). exceptions_of (sizes_told (Some 1) bytes) t) (drop-map (kept_size codec) at lines)
+    ∙ exceptions_of-kept codec (drop at lines) t (All-drop (λ l. length l ≡ 64) at lines whole) target
+    ∙ ap (λ (sizes : List (Option ℕ)). exceptions_of sizes t) (sym (drop-map (λ line. stored codec line) at lines))
 
 -- a page is zero where each of its bytes is 1
 pub zero_page-ones : (codec : Codec) (lines : List (List ℕ)) (n : ℕ) → AreLines lines → kept_sizes codec lines ≡ replicate n 1 → IsZeroPage lines

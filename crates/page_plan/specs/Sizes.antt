@@ -1,9 +1,9 @@
 -- What the pages of a memory take at their plans.
-use Rattle.std.specs.Prelude.{ℕ, List, Option, Some, None, if◌then◌else◌, map, unwrap_or}
+use Rattle.std.specs.Prelude.{ℕ, ◌+◌, List, Option, Some, None, if◌then◌else◌, map, take, drop, unwrap_or}
 use Rattle.std.specs.List.{sum_by}
 use Rattle.hier_types.specs.declared.counts.Totals.{Totals}
 use Rattle.hier_types.specs.declared.settings.Codec.{Codec}
-use Rattle.line_codec.specs.Layout.{is_exception, stored_sizes}
+use Rattle.line_codec.specs.Layout.{exceptions_of, is_exception, stored_sizes}
 use Rattle.size_ledger.specs.declared.row.SizeRow.{SizeRow}
 use Rattle.size_ledger.specs.Shares.{totals_of}
 use Rattle.page_plan.specs.declared.least.PagePlan.{PagePlan}
@@ -40,6 +40,14 @@ row_by plan sizes = record { order = order_of plan; exceptions = exceptions_in p
 -- what it takes at its own plan
 abbrev pub row_of : Codec → List (List ℕ) → SizeRow
 row_of codec page = row_by (plan_of codec page) (stored_sizes codec page)
+
+-- what a page takes in a block of an order, where the slots of the lines below `at` have `small` bytes and the others `large`
+abbrev pub row_in_slots : ℕ → ℕ → ℕ → ℕ → List (Option ℕ) → SizeRow
+row_in_slots order small large at sizes = record {
+  order = Some order;
+  exceptions = exceptions_of (take at sizes) small + exceptions_of (drop at sizes) large;
+  encoded = sum_by (bytes_at small) (take at sizes) + sum_by (bytes_at large) (drop at sizes);
+}
 
 -- the totals of a memory, by its lines alone
 unfoldable pub sizes_of_memory : Codec → List (List ℕ) → Totals

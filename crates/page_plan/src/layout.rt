@@ -1,4 +1,4 @@
-ghost use Rattle.std.specs.Prelude.{◌≡◌, ◌≤◌, ℕ, Some, MatchOption};
+ghost use Rattle.std.specs.Prelude.{◌≡◌, ◌≤◌, ◌*◌, ℕ, Some, MatchOption, length};
 ghost use Rattle.std.specs.List.{sum_by};
 ghost use Rattle.line_codec.specs.Layout.{is_exception, exceptions_of};
 ghost use Rattle.page_plan.specs.KeptSizes.{size_told, sizes_told};
@@ -15,14 +15,15 @@ fn overflows(size: u8, target: u8) -> bool
     size == 0 || size > target
 }
 
-// How many of a page's lines a slot of `target` bytes does not hold.
+// How many lines of a page, or of a part of it, a slot of `target` bytes does not hold.
 #[tactic(auto, unfolding(line_codec::specs::Layout::exceptions_of))]
-pub(crate) fn exceptions(sizes: &[u8; 64], target: u8) -> u8
+pub(crate) fn exceptions(sizes: &[u8], target: u8) -> u8
+    requires { length sizes.now ≤ 64 }
     ensures value { result ≡ exceptions_of (sizes_told (Some 1) sizes.now) target }
-    ensures high { result ≤ 64 }
+    ensures high { result ≤ length sizes.now }
 {
     let mut count = 0;
-    for index in 0..64usize {
+    for index in 0..sizes.len() {
         if overflows(sizes[index], target) {
             count += 1;
         }
@@ -46,13 +47,15 @@ fn bytes_of(zero: Option<u8>, size: u8, target: u8) -> u16
     }
 }
 
-// The bytes that the lines of a packed page take: those of its encoding where a slot of `target` bytes holds it, and
-// else 64. A line of zeros takes those of `zero`.
-pub(crate) fn encoded(zero: Option<u8>, sizes: &[u8; 64], target: u8) -> u16
-    ensures { result ≡ sum_by (bytes_at target) (sizes_told zero sizes.now) }
+// The bytes that the lines of a packed page, or of a part of it, take: those of its encoding where a slot of `target`
+// bytes holds it, and else 64. A line of zeros takes those of `zero`.
+pub(crate) fn encoded(zero: Option<u8>, sizes: &[u8], target: u8) -> u16
+    requires { length sizes.now ≤ 64 }
+    ensures value { result ≡ sum_by (bytes_at target) (sizes_told zero sizes.now) }
+    ensures most { result ≤ 255 * length sizes.now }
 {
     let mut bytes = 0;
-    for index in 0..64usize {
+    for index in 0..sizes.len() {
         bytes += bytes_of(zero, sizes[index], target);
     }
     bytes

@@ -1,11 +1,11 @@
 // What the lines of a page take in its slots.
-ghost use Rattle.std.specs.Prelude.{◌≡◌, ℕ, ◌<◌, ◌≤◌, List, length, replicate, slice_set};
+ghost use Rattle.std.specs.Prelude.{◌≡◌, ℕ, ◌<◌, ◌≤◌, List, Some, length, replicate, slice_set};
 ghost use Rattle.hier_types.specs.declared.settings.Codec.{Codec as AnyCodec};
 ghost use Rattle.hier_types.specs.Lines.{AreLines, zero_line};
 ghost use Rattle.line_codec.specs.Layout.{IsTarget, exceptions_of, stored_sizes};
 ghost use Rattle.page_plan.specs.KeptSizes.{kept_size, kept_sizes};
 ghost use Rattle.page_plan.specs.PagePlan.{IsInRange, plan_of};
-ghost use Rattle.page_plan.specs.Sizes.{order_of, row_by};
+ghost use Rattle.page_plan.specs.Sizes.{order_of, row_by, row_in_slots};
 
 use crate::layout::{encoded, exceptions};
 use crate::least::{PagePlan, least_plan};
@@ -117,6 +117,25 @@ impl PageSizes {
                 encoded: encoded(stored_size(codec, &[0; 64]), &self.sizes, target),
             },
             PagePlan::Raw => SizeRow::PLAIN,
+        }
+    }
+
+    /// What a page whose lines have these sizes takes in a block of an order, where the slots of the lines below `at`
+    /// have `small` bytes and the others `large`.
+    pub fn row_in_slots(&self, codec: Codec, order: u8, small: u8, large: u8, at: u8) -> SizeRow
+        requires small_is { IsTarget small }
+        requires large_is { IsTarget large }
+        requires at_in { at ≤ 64 }
+        ensures value { (lines : List (List ℕ)) → AreLines lines → kept_sizes codec lines ≡ self.now
+            → result ≡ row_in_slots order small large at (stored_sizes codec lines) }
+        ensures order { result.order ≡ Some order }
+    {
+        let (front, back) = self.sizes.split_at(at as usize);
+        let zero = stored_size(codec, &[0; 64]);
+        SizeRow {
+            order: Some(order),
+            exceptions: exceptions(front, small) + exceptions(back, large),
+            encoded: encoded(zero, front, small) + encoded(zero, back, large),
         }
     }
 }

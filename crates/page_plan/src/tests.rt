@@ -115,6 +115,26 @@ fn rows_of_rising_lines(rt: HostRuntime) {
     }
 }
 
+/// Seven plain lines, and 57 whose encodings have 23 bytes: these are exceptions where their slots have 20.
+#[test]
+fn rows_in_slots_of_two_lengths(rt: HostRuntime) {
+    let page = page_of(rising(0x0001_0000, 4), plain(), 7);
+    let sizes = PageSizes::of(Codec::Bdi, &page);
+    for (at, exceptions, encoded) in [
+        (0, 7, 57 * 23 + 7 * 64),
+        (3, 7, 57 * 23 + 7 * 64),
+        (20, 20, 44 * 23 + 20 * 64),
+        (64, 64, 4096),
+    ] {
+        let row = SizeRow {
+            order: Some(2),
+            exceptions,
+            encoded,
+        };
+        assert_eq!(rt; sizes.row_in_slots(Codec::Bdi, 2, 20, 24, at), row);
+    }
+}
+
 #[test]
 fn sizes_of_zeros(rt: HostRuntime) {
     for codec in [Codec::Bdi, Codec::Fpc] {

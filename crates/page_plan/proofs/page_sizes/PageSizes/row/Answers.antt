@@ -12,4 +12,4 @@ returns-in-Packed-clause-value c lines whole kept =
     let told : sizes_told c.stored_size.result c.self.inside.sizes ≡ stored_sizes codec lines =
     ap (λ (zero : Option ℕ). sizes_told zero c.self.inside.sizes) c.stored_size.ensures ∙ ap (sizes_told (stored codec zero_line)) (c.self.view_is ∙ sym kept)
     ∙ sizes_told-stored codec lines whole in
-    rw (c.in-Packed.is, c.encoded.ensures, told) refl
+    rw (c.in-Packed.is, c.encoded.ensures.value, told) refl
