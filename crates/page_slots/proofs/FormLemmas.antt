@@ -1,19 +1,25 @@
 -- The slots of a form share no byte.
-use Rattle.std.proofs.Common.{ℕ, ◌≡◌, ◌+◌, ◌*◌, ◌<◌, ◌≤◌, ◌≢◌, suc, arith, ◌⊎◌, inl, inr}
+use Rattle.std.proofs.Common.{ℕ, ◌≡◌, ◌+◌, ◌*◌, ◌<◌, ◌≤◌, ◌≢◌, suc, refl, arith, ◌⊎◌, inl, inr}
 use Rattle.std.proofs.lemmas.Bool.Decides.{nat_tests}
 use Rattle.std.proofs.lemmas.Nat.{mul-le}
 use Rattle.std.proofs.lemmas.Bool.{cases_lt}
 use Rattle.line_codec.specs.Layout.{cap}
+use Rattle.page_slots.specs.declared.desc.Slots.{Slots}
+use Rattle.page_slots.specs.declared.desc.Slots.TheVariants.{Packed, Mid}
 use Rattle.page_slots.specs.declared.form.Form.{Form}
-use Rattle.page_slots.specs.Forms.{IsForm, packed_form, room, slot_start, Apart}
+use Rattle.page_slots.specs.Forms.{IsForm, form_of, order_of, room, slot_start, Apart}
 use Rattle.page_slots.specs.Sound.{HoldsSlots}
 
 pub apart_of : (i j : ℕ) → i ≢ j → (i < j) ⊎ (j < i)
 apart_of i j ne = elim (cases_lt i j) [ inl a ↦ inl a | inr b ↦ inr (omega arith) ]
 
-room_le : (form : Form) (size i : ℕ) → IsForm form size → room form i ≤ form.large
+pub room_le : (form : Form) (size i : ℕ) → IsForm form size → room form i ≤ form.large
 unfolding room
 room_le form size i is = let o = is.ordered in grind (arith, nat_tests)
+
+pub room_small : (form : Form) (size i : ℕ) → IsForm form size → form.small ≤ room form i
+unfolding room
+room_small form size i is = let o = is.ordered in grind (arith, nat_tests)
 
 room_rises : (form : Form) (size i j : ℕ) → IsForm form size → i ≤ j → room form i ≤ room form j
 unfolding room
@@ -45,10 +51,21 @@ slots_apart form size i j is ne =
 pub slot_in_block : (form : Form) (size i start n : ℕ) → IsForm form size → i < 64 → start ≡ slot_start form i → n ≡ room form i → start + n ≤ size
 slot_in_block form size i start n is i_in e f = omega (arith, is.is_size, is.slots_in, slot_within form size i is i_in)
 
-cap_few : (order : ℕ) → cap order ≤ 32
+pub cap_few : (order : ℕ) → cap order ≤ 32
 cap_few order = grind (arith, nat_tests)
 
--- the form of a packed page is one
-pub packed_is_form : (order target size : ℕ) → HoldsSlots order target size → IsForm (packed_form order target) size
-packed_is_form order target size holds =
+-- the form of a page in slots is one
+pub form_is : (slots : Slots) (size : ℕ) → HoldsSlots slots size → IsForm (form_of slots) size
+form_is (Packed order target) size holds =
     record { ordered = omega arith; slots_in = holds.slots_in; few = cap_few order; is_size = holds.is_size }
+form_is (Mid order small large at) size holds =
+    record { ordered = omega (arith, holds.targets.1.1.0); slots_in = holds.slots_in; few = cap_few order; is_size = holds.is_size }
+
+pub chunks_are : (slots : Slots) → (form_of slots).chunks ≡ cap (order_of slots)
+chunks_are (Packed order target) = refl
+chunks_are (Mid order small large at) = refl
+
+-- all slots of a packed page have one length
+pub packed_room : (order target i : ℕ) → room (form_of (Packed order target)) i ≡ target
+unfolding room
+packed_room order target i = grind (arith, nat_tests)

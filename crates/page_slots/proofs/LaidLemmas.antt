@@ -173,7 +173,7 @@ laid_by codec order target lines size bytes is_target is_size same slots_in whol
     let form = packed_form order target in
     record {
       sound = record {
-        holds = record { order_in = is_size.0; is_target = is_target; slots_in = slots_in; is_size = same ∙ is_size.1 };
+        holds = record { order_in = is_size.0; targets = is_target; slots_in = slots_in; is_size = same ∙ is_size.1 };
         lines = has_own codec form bytes (λ i. get_or lines i []) (laid_all codec form lines bytes laid);
       };
       content = sym (tabulate-by_index [] (content_at form bytes) 64 lines whole (λ i i_in. sym (has_content codec form bytes i (get_or lines i []) (laid.has i i_in))));

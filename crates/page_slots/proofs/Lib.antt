@@ -1,8 +1,16 @@
+pub mod ChunkLemmas
+pub mod ContentLemmas
 pub mod CountLemmas
 pub mod FormLemmas
+pub mod FrontLemmas
+pub mod HoistLemmas
 pub mod LaidLemmas
 pub mod LineLemmas
+pub mod MarkLemmas
 pub mod PlaceLemmas
 pub mod PutLemmas
+pub mod ShiftLemmas
 pub mod SoundLemmas
+pub mod StepLemmas
 pub mod TableLemmas
+pub mod UpLemmas

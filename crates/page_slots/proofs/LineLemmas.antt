@@ -6,12 +6,13 @@ use Rattle.std.proofs.lemmas.Bool.{cases_lt}
 use Rattle.std.proofs.lemmas.Grind.{get_or_default_zero}
 use Rattle.std.proofs.lemmas.List.{get_or_past, take-append-drop}
 use Rattle.hier_types.specs.declared.settings.Codec.{Codec}
+use Rattle.line_codec.specs.Layout.{slot_at}
 use Rattle.line_codec.specs.Slots.{stored, encoding, fits, Begins, Says, line_in, used_in}
 use Rattle.line_codec.proofs.SlotLemmas.{encoding_says, slots_say}
 use Rattle.byte_parts.specs.Parts.{part}
 use Rattle.page_slots.specs.declared.form.Form.{Form}
 use Rattle.page_slots.specs.Forms.{room, slot_start}
-use Rattle.page_slots.specs.Lines.{meta, chunk_of, chunk, slot, mark, says, content_at, Stands, HasLine}
+use Rattle.page_slots.specs.Lines.{meta, chunk_of, chunk, slot, mark, says, content_at, Stands, HasLine, HasLines}
 
 pub mark_le : (line : List ℕ) → mark line ≤ 64
 unfolding mark
@@ -103,3 +104,51 @@ pub slot_uses : (codec : Codec) (form : Form) (bytes : List ℕ) (i : ℕ) (line
     → (stored codec line ≡ Some (used_in (slot form bytes i))) × (used_in (slot form bytes i) ≤ room form i)
 slot_uses codec form bytes i line has low =
     slot_uses_by codec form bytes i line (fits codec (room form i) line) has.whole has.below refl low has.stands
+
+-- a larger slot holds what a smaller one holds
+size-rises : (size : Option ℕ) (t r : ℕ) → t ≤ r → option_map_or (λ bytes. nat_le bytes t) size false ≡ true → option_map_or (λ bytes. nat_le bytes r) size false ≡ true
+size-rises None t r le fit = fit
+size-rises (Some n) t r le fit = grind (arith, nat_tests)
+
+pub fits-rises : (codec : Codec) (t r : ℕ) (line : List ℕ) → t ≤ r → fits codec t line ≡ true → fits codec r line ≡ true
+fits-rises codec t r line le fit = size-rises (stored codec line) t r le fit
+
+-- a line is an exception exactly where it does not fit its slot
+fits_by : (codec : Codec) (form : Form) (bytes : List ℕ) (i : ℕ) (line : List ℕ) (fit : Bool) → fits codec (room form i) line ≡ fit → Stands codec form bytes i line fit
+    → (meta bytes i < 128 → fits codec (room form i) line ≡ true) × (128 ≤ meta bytes i → fits codec (room form i) line ≡ false)
+fits_by codec form bytes i line true e h = (λ low. e, λ high. absurd (omega (arith, h.marked, mark_le line)))
+fits_by codec form bytes i line false e h = (λ low. absurd (omega (arith, h.marked)), λ high. e)
+
+pub slot_fits : (codec : Codec) (form : Form) (bytes : List ℕ) (i : ℕ) (line : List ℕ) → HasLine codec form bytes i line → meta bytes i < 128 → fits codec (room form i) line ≡ true
+slot_fits codec form bytes i line has low = (fits_by codec form bytes i line (fits codec (room form i) line) refl has.stands).0 low
+
+pub exception_unfit : (codec : Codec) (form : Form) (bytes : List ℕ) (i : ℕ) (line : List ℕ) → HasLine codec form bytes i line → 128 ≤ meta bytes i → fits codec (room form i) line ≡ false
+exception_unfit codec form bytes i line has high = (fits_by codec form bytes i line (fits codec (room form i) line) refl has.stands).1 high
+
+-- an exception does not fit its slot, whatever names the line
+pub unfit_at : (codec : Codec) (form : Form) (bytes : List ℕ) (i : ℕ) (lines : ℕ → List ℕ) (from : List ℕ) → from ≡ lines i → HasLines codec form bytes lines → i < 64 → 128 ≤ meta bytes i
+    → fits codec (room form i) from ≡ false
+unfit_at codec form bytes i lines from e has i_in high = ap (fits codec (room form i)) e ∙ exception_unfit codec form bytes i (lines i) (has.has i i_in) high
+
+slot_start_same : (f g : Form) (i : ℕ) → room g i ≡ room f i → slot_start g i ≡ slot_start f i
+unfolding slot_start
+slot_start_same f g i e = ap (λ (r : ℕ). slot_at r i) e
+
+stands_in_form : (codec : Codec) (f g : Form) (bytes : List ℕ) (i : ℕ) (line : List ℕ) (fit : Bool) → slot g bytes i ≡ slot f bytes i → g.chunks ≡ f.chunks
+    → (128 ≤ meta bytes i → f.large < chunk_of (meta bytes i) → g.large < chunk_of (meta bytes i)) → Stands codec f bytes i line fit → Stands codec g bytes i line fit
+stands_in_form codec f g bytes i line true slots chunks above h = record { marked = h.marked; begins = subst (Begins (encoding codec line)) (sym slots) h.begins }
+stands_in_form codec f g bytes i line false slots chunks above h =
+    record { marked = h.marked; above = above (omega (arith, h.marked)) h.above; below = omega (arith, h.below); there = h.there }
+
+-- a line that has the same slot in another form
+pub line_in_form : (codec : Codec) (f g : Form) (bytes : List ℕ) (i : ℕ) (line : List ℕ) → room g i ≡ room f i → g.chunks ≡ f.chunks
+    → (128 ≤ meta bytes i → f.large < chunk_of (meta bytes i) → g.large < chunk_of (meta bytes i)) → HasLine codec f bytes i line → HasLine codec g bytes i line
+line_in_form codec f g bytes i line rooms chunks above has =
+    let starts = slot_start_same f g i rooms in
+    let slots : slot g bytes i ≡ slot f bytes i = ap (λ (a : ℕ). part a (room g i) bytes) starts ∙ ap (λ (r : ℕ). part (slot_start f i) r bytes) rooms in
+    record {
+      whole = has.whole;
+      below = has.below;
+      stands = stands_in_form codec f g bytes i line (fits codec (room g i) line) slots chunks above
+          (subst (λ (r : ℕ). Stands codec f bytes i line (fits codec r line)) (sym rooms) has.stands);
+    }

@@ -5,15 +5,15 @@ use Rattle.std.proofs.lemmas.Bool.Decides.{nat_tests}
 use Rattle.std.proofs.lemmas.Option.{same_Some}
 use Rattle.hier_types.specs.declared.settings.Codec.{Codec}
 use Rattle.line_codec.specs.Slots.{fits}
-use Rattle.page_slots.specs.declared.desc.Shape.TheVariants.{Zero, Raw, Packed}
+use Rattle.page_slots.specs.declared.desc.Shape.TheVariants.{Zero, Raw, Slotted}
 use Rattle.page_slots.specs.declared.form.Form.{Form}
 use Rattle.page_slots.specs.declared.placing.PlaceKind.TheVariants as kinds
 use Rattle.page_slots.specs.declared.placing.PlaceRow.{PlaceRow}
-use Rattle.page_slots.specs.Forms.{IsForm, packed_form, room, slot_start}
+use Rattle.page_slots.specs.Forms.{IsForm, form_of, room, slot_start}
 use Rattle.page_slots.specs.Descs.{line_of}
 use Rattle.page_slots.specs.Lines.{meta, chunk_of, content_at, HasLines, Stands}
-use Rattle.page_slots.specs.Places.{block_row, chunk_row, slot_row, line_row, packed_place, raw_place, IsWithin, ShareNoByte, PlacesFit, PlacesAreApart, LinesHaveOnePlace, PlacesSuitLines, UsesStored, kind_for}
-use Rattle.page_slots.proofs.FormLemmas.{apart_of, slot_low, slot_within, slots_apart, slot_in_block, packed_is_form}
+use Rattle.page_slots.specs.Places.{block_row, chunk_row, slot_row, line_row, slotted_place, raw_place, IsWithin, ShareNoByte, PlacesFit, PlacesAreApart, LinesHaveOnePlace, PlacesSuitLines, UsesStored, kind_for}
+use Rattle.page_slots.proofs.FormLemmas.{apart_of, slot_low, slot_within, slots_apart, slot_in_block, form_is}
 use Rattle.page_slots.proofs.LineLemmas.{exception_of, mark_le, slot_uses}
 
 -- a page has the lines that its bytes say
@@ -35,26 +35,26 @@ line_row-line form bytes i = elim (cases_lt (meta bytes i) 128) [
 ]
 
 -- the places by index
-packed_place-first : (form : Form) (bytes : List ℕ) → packed_place form bytes 0 ≡ Some (block_row (length bytes))
-unfolding packed_place
-packed_place-first form bytes = refl
+slotted_place-first : (form : Form) (bytes : List ℕ) → slotted_place form bytes 0 ≡ Some (block_row (length bytes))
+unfolding slotted_place
+slotted_place-first form bytes = refl
 
-packed_place-second : (form : Form) (bytes : List ℕ) → packed_place form bytes 1 ≡ Some (chunk_row kinds.Meta 64 0)
-unfolding packed_place
-packed_place-second form bytes = refl
+slotted_place-second : (form : Form) (bytes : List ℕ) → slotted_place form bytes 1 ≡ Some (chunk_row kinds.Meta 64 0)
+unfolding slotted_place
+slotted_place-second form bytes = refl
 
-packed_place-line : (form : Form) (bytes : List ℕ) (i : ℕ) → i < 64 → packed_place form bytes (i + 2) ≡ Some (line_row form bytes i)
-unfolding packed_place
-packed_place-line form bytes i i_in =
+slotted_place-line : (form : Form) (bytes : List ℕ) (i : ℕ) → i < 64 → slotted_place form bytes (i + 2) ≡ Some (line_row form bytes i)
+unfolding slotted_place
+slotted_place-line form bytes i i_in =
     let first : (i + 2 == 0) ≡ false = grind (arith, nat_tests) in
     let second : (i + 2 == 1) ≡ false = grind (arith, nat_tests) in
     let inside : nat_lt (i + 2) 66 ≡ true = grind (arith, nat_tests) in
     let same : i + 2 - 2 ≡ i = omega arith in
     rw (first, second, inside, same) refl
 
-packed_place-past : (form : Form) (bytes : List ℕ) (index : ℕ) → 66 ≤ index → packed_place form bytes index ≡ None
-unfolding packed_place
-packed_place-past form bytes index past =
+slotted_place-past : (form : Form) (bytes : List ℕ) (index : ℕ) → 66 ≤ index → slotted_place form bytes index ≡ None
+unfolding slotted_place
+slotted_place-past form bytes index past =
     let first : (index == 0) ≡ false = grind (arith, nat_tests) in
     let second : (index == 1) ≡ false = grind (arith, nat_tests) in
     let outside : nat_lt index 66 ≡ false = grind (arith, nat_tests) in
@@ -80,21 +80,21 @@ raw_place-past bytes index past =
     rw (first, outside) refl
 
 -- what stands in a place of a page in such a form: the block, the metadata or a line
-packed_rows : (form : Form) (bytes : List ℕ) (index : ℕ) (row : PlaceRow) → packed_place form bytes index ≡ Some row
+slotted_rows : (form : Form) (bytes : List ℕ) (index : ℕ) (row : PlaceRow) → slotted_place form bytes index ≡ Some row
     → ((index ≡ 0) × (row ≡ block_row (length bytes))) ⊎ (((index ≡ 1) × (row ≡ chunk_row kinds.Meta 64 0))
     ⊎ ((i : ℕ) × (i < 64) × (index ≡ i + 2) × (row ≡ line_row form bytes i)))
-packed_rows form bytes index row e = elim (cases_lt index 2) [
+slotted_rows form bytes index row e = elim (cases_lt index 2) [
   | inl front ↦ elim (cases_eq index 0) [
-    | inl first ↦ inl (first, same_Some _ _ (sym e ∙ ap (packed_place form bytes) first ∙ packed_place-first form bytes))
+    | inl first ↦ inl (first, same_Some _ _ (sym e ∙ ap (slotted_place form bytes) first ∙ slotted_place-first form bytes))
     | inr second ↦
         let one : index ≡ 1 = omega arith in
-        inr (inl (one, same_Some _ _ (sym e ∙ ap (packed_place form bytes) one ∙ packed_place-second form bytes)))
+        inr (inl (one, same_Some _ _ (sym e ∙ ap (slotted_place form bytes) one ∙ slotted_place-second form bytes)))
   ]
   | inr behind ↦ elim (cases_lt index 66) [
     | inl inside ↦
         let same : index ≡ index - 2 + 2 = omega arith in
-        inr (inr (index - 2, omega arith, same, same_Some _ _ (sym e ∙ ap (packed_place form bytes) same ∙ packed_place-line form bytes (index - 2) (omega arith))))
-    | inr past ↦ absurd (let none : None ≡ Some row = sym (packed_place-past form bytes index past) ∙ e in cc)
+        inr (inr (index - 2, omega arith, same, same_Some _ _ (sym e ∙ ap (slotted_place form bytes) same ∙ slotted_place-line form bytes (index - 2) (omega arith))))
+    | inr past ↦ absurd (let none : None ≡ Some row = sym (slotted_place-past form bytes index past) ∙ e in cc)
   ]
 ]
 
@@ -127,9 +127,9 @@ line_within codec form bytes i is i_in has = elim (cases_lt (meta bytes i) 128) 
 block_within : (size : ℕ) → IsWithin size (block_row size)
 block_within size = record { used = omega arith; inside = omega arith }
 
-packed_within : (codec : Codec) (form : Form) (bytes : List ℕ) (index : ℕ) (row : PlaceRow) → IsForm form (length bytes) → HasOwn codec form bytes
-    → packed_place form bytes index ≡ Some row → IsWithin (length bytes) row
-packed_within codec form bytes index row is has e = elim (packed_rows form bytes index row e) [
+slotted_within : (codec : Codec) (form : Form) (bytes : List ℕ) (index : ℕ) (row : PlaceRow) → IsForm form (length bytes) → HasOwn codec form bytes
+    → slotted_place form bytes index ≡ Some row → IsWithin (length bytes) row
+slotted_within codec form bytes index row is has e = elim (slotted_rows form bytes index row e) [
   | inl block ↦ subst (IsWithin (length bytes)) (sym block.1) (block_within (length bytes))
   | inr (inl metadata) ↦ subst (IsWithin (length bytes)) (sym metadata.1) (record { used = omega arith; inside = omega (arith, is.slots_in, is.is_size) })
   | inr (inr line) ↦ subst (IsWithin (length bytes)) (sym line.3) (line_within codec form bytes line.0 is line.1 has)
@@ -144,8 +144,8 @@ raw_within bytes index row whole e = elim (raw_rows bytes index row e) [
 pub fit : PlacesFit
 fit codec Zero bytes index row sound e = absurd (cc)
 fit codec Raw bytes index row sound e = raw_within bytes index row sound e
-fit codec (Packed order target) bytes index row sound e =
-    packed_within codec (packed_form order target) bytes index row (packed_is_form order target (length bytes) sound.holds) sound.lines e
+fit codec (Slotted slots) bytes index row sound e =
+    slotted_within codec (form_of slots) bytes index row (form_is slots (length bytes) sound.holds) sound.lines e
 
 share_back : (row other : PlaceRow) → ShareNoByte row other → ShareNoByte other row
 share_back row other apart = elim apart [ inl a ↦ inr a | inr b ↦ inl b ]
@@ -187,18 +187,18 @@ metadata_apart codec form bytes i has i_in = elim (cases_lt (meta bytes i) 128) 
 
 -- a line, and the metadata or another line
 line_apart : (codec : Codec) (form : Form) (bytes : List ℕ) (i index : ℕ) (other : PlaceRow) → IsForm form (length bytes) → HasOwn codec form bytes
-    → i < 64 → 1 ≤ index → i + 2 ≢ index → packed_place form bytes index ≡ Some other → ShareNoByte (line_row form bytes i) other
-line_apart codec form bytes i index other is has i_in some ne e = elim (packed_rows form bytes index other e) [
+    → i < 64 → 1 ≤ index → i + 2 ≢ index → slotted_place form bytes index ≡ Some other → ShareNoByte (line_row form bytes i) other
+line_apart codec form bytes i index other is has i_in some ne e = elim (slotted_rows form bytes index other e) [
   | inl block ↦ absurd (omega (arith, block.0))
   | inr (inl metadata) ↦ rw metadata.1 (share_back (chunk_row kinds.Meta 64 0) (line_row form bytes i) (metadata_apart codec form bytes i has i_in))
   | inr (inr line) ↦ rw line.3 (lines_apart codec form bytes i line.0 is has i_in line.1 (λ k. ne (omega (arith, k, line.2))))
 ]
 
-packed_apart : (codec : Codec) (form : Form) (bytes : List ℕ) (i j : ℕ) (row other : PlaceRow) → IsForm form (length bytes) → HasOwn codec form bytes
-    → 1 ≤ i → 1 ≤ j → i ≢ j → packed_place form bytes i ≡ Some row → packed_place form bytes j ≡ Some other → ShareNoByte row other
-packed_apart codec form bytes i j row other is has i_some j_some ne e f = elim (packed_rows form bytes i row e) [
+slotted_apart : (codec : Codec) (form : Form) (bytes : List ℕ) (i j : ℕ) (row other : PlaceRow) → IsForm form (length bytes) → HasOwn codec form bytes
+    → 1 ≤ i → 1 ≤ j → i ≢ j → slotted_place form bytes i ≡ Some row → slotted_place form bytes j ≡ Some other → ShareNoByte row other
+slotted_apart codec form bytes i j row other is has i_some j_some ne e f = elim (slotted_rows form bytes i row e) [
   | inl block ↦ absurd (omega (arith, block.0))
-  | inr (inl metadata) ↦ elim (packed_rows form bytes j other f) [
+  | inr (inl metadata) ↦ elim (slotted_rows form bytes j other f) [
     | inl block ↦ absurd (omega (arith, block.0))
     | inr (inl same) ↦ absurd (ne (metadata.0 ∙ sym same.0))
     | inr (inr line) ↦ rw (metadata.1, line.3) (metadata_apart codec form bytes line.0 has line.1)
@@ -218,11 +218,11 @@ raw_apart bytes i j row other i_some j_some ne e f = elim (raw_rows bytes i row 
 pub apart : PlacesAreApart
 apart codec Zero bytes i j row other sound i_some j_some ne e f = absurd (cc)
 apart codec Raw bytes i j row other sound i_some j_some ne e f = raw_apart bytes i j row other i_some j_some ne e f
-apart codec (Packed order target) bytes i j row other sound i_some j_some ne e f =
-    packed_apart codec (packed_form order target) bytes i j row other (packed_is_form order target (length bytes) sound.holds) sound.lines i_some j_some ne e f
+apart codec (Slotted slots) bytes i j row other sound i_some j_some ne e f =
+    slotted_apart codec (form_of slots) bytes i j row other (form_is slots (length bytes) sound.holds) sound.lines i_some j_some ne e f
 
-packed_index : (form : Form) (bytes : List ℕ) (line index : ℕ) (row : PlaceRow) → line < 64 → packed_place form bytes index ≡ Some row → row.line ≡ line → index ≡ line + 2
-packed_index form bytes line index row line_in e is = elim (packed_rows form bytes index row e) [
+slotted_index : (form : Form) (bytes : List ℕ) (line index : ℕ) (row : PlaceRow) → line < 64 → slotted_place form bytes index ≡ Some row → row.line ≡ line → index ≡ line + 2
+slotted_index form bytes line index row line_in e is = elim (slotted_rows form bytes index row e) [
   | inl block ↦ absurd (omega (arith, is, ap (λ (r : PlaceRow). r.line) block.1))
   | inr (inl metadata) ↦ absurd (omega (arith, is, ap (λ (r : PlaceRow). r.line) metadata.1))
   | inr (inr own) ↦ omega (arith, is, own.2, ap (λ (r : PlaceRow). r.line) own.3, line_row-line form bytes own.0)
@@ -240,10 +240,10 @@ one_place Raw bytes line index some line_in = (
   (λ place. raw_index bytes line index place.row line_in place.there place.is_line),
   (λ e. record { row = chunk_row kinds.Raw line line; there = rw e (raw_place-line bytes line line_in); is_line = refl }),
 )
-one_place (Packed order target) bytes line index some line_in =
-    let form = packed_form order target in (
-      (λ place. packed_index form bytes line index place.row line_in place.there place.is_line),
-      (λ e. record { row = line_row form bytes line; there = rw e (packed_place-line form bytes line line_in); is_line = line_row-line form bytes line }),
+one_place (Slotted slots) bytes line index some line_in =
+    let form = form_of slots in (
+      (λ place. slotted_index form bytes line index place.row line_in place.there place.is_line),
+      (λ e. record { row = line_row form bytes line; there = rw e (slotted_place-line form bytes line line_in); is_line = line_row-line form bytes line }),
     )
 
 -- what a line uses of its slot is its stored size
@@ -256,10 +256,10 @@ line_uses codec form bytes i i_in has = elim (cases_lt (meta bytes i) 128) [
   | inr high ↦ subst (Uses codec (content_at form bytes)) (sym (exception_row form bytes i high)) (λ e. absurd (cc))
 ]
 
-pub packed_uses : (codec : Codec) (form : Form) (bytes : List ℕ) (index : ℕ) (result : Option PlaceRow) → result ≡ packed_place form bytes index → HasOwn codec form bytes
+pub slotted_uses : (codec : Codec) (form : Form) (bytes : List ℕ) (index : ℕ) (result : Option PlaceRow) → result ≡ slotted_place form bytes index → HasOwn codec form bytes
     → IfSome result (Uses codec (content_at form bytes))
-packed_uses codec form bytes index None e has = tt
-packed_uses codec form bytes index (Some row) e has = elim (packed_rows form bytes index row (sym e)) [
+slotted_uses codec form bytes index None e has = tt
+slotted_uses codec form bytes index (Some row) e has = elim (slotted_rows form bytes index row (sym e)) [
   | inl block ↦ subst (Uses codec (content_at form bytes)) (sym block.1) (λ is. absurd (cc))
   | inr (inl metadata) ↦ subst (Uses codec (content_at form bytes)) (sym metadata.1) (λ is. absurd (cc))
   | inr (inr line) ↦ subst (Uses codec (content_at form bytes)) (sym line.3) (line_uses codec form bytes line.0 line.1 has)
@@ -282,9 +282,9 @@ line_kind : (codec : Codec) (form : Form) (bytes : List ℕ) (i : ℕ) → i < 6
     → (line_row form bytes i).kind ≡ kind_for codec form i (content_at form bytes i)
 line_kind codec form bytes i i_in has = kind_by codec form bytes i (content_at form bytes i) (fits codec (room form i) (content_at form bytes i)) (has.has i i_in).stands
 
-packed_kind : (codec : Codec) (form : Form) (bytes : List ℕ) (index : ℕ) (row : PlaceRow) → HasOwn codec form bytes → packed_place form bytes index ≡ Some row
+slotted_kind : (codec : Codec) (form : Form) (bytes : List ℕ) (index : ℕ) (row : PlaceRow) → HasOwn codec form bytes → slotted_place form bytes index ≡ Some row
     → row.line < 64 → row.kind ≡ kind_for codec form row.line (content_at form bytes row.line)
-packed_kind codec form bytes index row has e line_in = elim (packed_rows form bytes index row e) [
+slotted_kind codec form bytes index row has e line_in = elim (slotted_rows form bytes index row e) [
   | inl block ↦ absurd (omega (arith, line_in, ap (λ (r : PlaceRow). r.line) block.1))
   | inr (inl metadata) ↦ absurd (omega (arith, line_in, ap (λ (r : PlaceRow). r.line) metadata.1))
   | inr (inr line) ↦
@@ -305,9 +305,9 @@ suits codec Raw bytes index row sound e line_in = record {
   kind = raw_kind bytes index row e line_in;
   used = raw_uses codec (line_of Raw bytes) bytes index (Some row) (sym e);
 }
-suits codec (Packed order target) bytes index row sound e line_in =
-    let form = packed_form order target in
+suits codec (Slotted slots) bytes index row sound e line_in =
+    let form = form_of slots in
     record {
-      kind = packed_kind codec form bytes index row sound.lines e line_in;
-      used = packed_uses codec form bytes index (Some row) (sym e) sound.lines;
+      kind = slotted_kind codec form bytes index row sound.lines e line_in;
+      used = slotted_uses codec form bytes index (Some row) (sym e) sound.lines;
     }

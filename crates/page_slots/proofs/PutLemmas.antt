@@ -147,7 +147,7 @@ pub with_line_other : (lines : ℕ → List ℕ) (line : ℕ) (from : List ℕ) 
 with_line_other lines line from i ne = grind (arith, nat_tests)
 
 -- a page in which one line is put has the others still
-puts_lines : (codec : Codec) (form : Form) (line : ℕ) (from : List ℕ) (taken : Option ℕ) (old new : List ℕ) (lines : ℕ → List ℕ) → line < 64
+pub puts_lines : (codec : Codec) (form : Form) (line : ℕ) (from : List ℕ) (taken : Option ℕ) (old new : List ℕ) (lines : ℕ → List ℕ) → line < 64
     → HasOthers codec form old line lines → ((j : ℕ) → j < 64 → j ≢ line → Misses taken (meta old j)) → PutsLine codec form line from taken old new
     → HasLines codec form new (with_line lines line from)
 puts_lines codec form line from taken old new lines line_in has fresh puts = record {
@@ -169,6 +169,16 @@ puts_lines codec form line from taken old new lines line_in has fresh puts = rec
               rw (same, same') (has.apart i i_in (rw same at high) j j_in ne (rw same' at high'))
         ]
   ];
+}
+
+-- a line that is put in its own place again leaves the lines as they were
+pub with_own_line : (codec : Codec) (form : Form) (bytes : List ℕ) (lines : ℕ → List ℕ) (line : ℕ) → HasLines codec form bytes (with_line lines line (lines line)) → HasLines codec form bytes lines
+with_own_line codec form bytes lines line has = record {
+  has = λ i i_in. elim (cases_eq i line) [
+    | inl e ↦ subst (HasLine codec form bytes i) (with_line_same lines line (lines line) i e ∙ ap lines (sym e)) (has.has i i_in)
+    | inr ne ↦ subst (HasLine codec form bytes i) (with_line_other lines line (lines line) i ne) (has.has i i_in)
+  ];
+  apart = has.apart;
 }
 
 -- the line that is put into its slot

@@ -5,13 +5,14 @@ use Rattle.hier_types.specs.declared.settings.Codec.{Codec}
 use Rattle.byte_parts.specs.Parts.{ChangesWithin}
 use Rattle.byte_parts.proofs.PartLemmas.{part_stays}
 use Rattle.hier_types.specs.Tabulate.{tabulate}
+use Rattle.page_slots.specs.declared.desc.Slots.{Slots}
 use Rattle.page_slots.specs.declared.form.Form.{Form}
 use Rattle.page_slots.specs.declared.putting.PutResult.{PutResult}
 use Rattle.page_slots.specs.declared.putting.PutResult.TheVariants.{Done, Overflow}
-use Rattle.page_slots.specs.Forms.{packed_form}
+use Rattle.page_slots.specs.Forms.{form_of}
 use Rattle.page_slots.specs.Lines.{chunk, content_at, HasLine, HasLines, HasOthers}
 use Rattle.page_slots.specs.Puts.{with_line}
-use Rattle.page_slots.specs.Sound.{HoldsSlots, IsPacked}
+use Rattle.page_slots.specs.Sound.{HoldsSlots, IsSlotted}
 use Rattle.page_slots.proofs.FormLemmas.{apart_of}
 use Rattle.page_slots.proofs.LineLemmas.{has_content}
 use Rattle.page_slots.proofs.PutLemmas.{with_line_same, with_line_other}
@@ -27,14 +28,14 @@ has_own codec form bytes lines has = record {
 pub others_of : (codec : Codec) (form : Form) (bytes : List ℕ) (line : ℕ) (lines : ℕ → List ℕ) → HasLines codec form bytes lines → HasOthers codec form bytes line lines
 others_of codec form bytes line lines has = record { has = λ i i_in ne. has.has i i_in; apart = has.apart }
 
--- a packed page stays sound
-pub packed_by : (codec : Codec) (order target : ℕ) (old new : List ℕ) (lines : ℕ → List ℕ) (result : PutResult) (form : Form) → form ≡ packed_form order target → length new ≡ length old
-    → IsPacked codec order target old → (result ≡ Done → HasLines codec form new lines) → (result ≡ Overflow → new ≡ old) → IsPacked codec order target new
-packed_by codec order target old new lines Done form e same sound done stays = record {
-  holds = subst (HoldsSlots order target) (sym same) sound.holds;
-  lines = has_own codec (packed_form order target) new lines (subst (λ (f : Form). HasLines codec f new lines) e (done refl));
+-- a page in slots stays sound
+pub slotted_by : (codec : Codec) (slots : Slots) (old new : List ℕ) (lines : ℕ → List ℕ) (result : PutResult) → length new ≡ length old
+    → IsSlotted codec slots old → (result ≡ Done → HasLines codec (form_of slots) new lines) → (result ≡ Overflow → new ≡ old) → IsSlotted codec slots new
+slotted_by codec slots old new lines Done same sound done stays = record {
+  holds = subst (HoldsSlots slots) (sym same) sound.holds;
+  lines = has_own codec (form_of slots) new lines (done refl);
 }
-packed_by codec order target old new lines Overflow form e same sound done stays = subst (IsPacked codec order target) (sym (stays refl)) sound
+slotted_by codec slots old new lines Overflow same sound done stays = subst (IsSlotted codec slots) (sym (stays refl)) sound
 
 -- and its lines are as before but for one
 pub content_by : (codec : Codec) (form : Form) (old new : List ℕ) (line : ℕ) (from : List ℕ) → line < 64 → HasLines codec form new (with_line (content_at form old) line from)

@@ -6,10 +6,12 @@ use Rattle.hier_types.specs.declared.settings.Codec.{Codec}
 use Rattle.line_codec.specs.Layout.{IsTarget, cap, stored_sizes, chunks_of}
 use Rattle.line_codec.specs.Slots.{fits}
 use Rattle.page_slots.specs.declared.desc.Shape.{Shape}
-use Rattle.page_slots.specs.declared.desc.Shape.TheVariants.{Zero, Raw, Packed}
+use Rattle.page_slots.specs.declared.desc.Shape.TheVariants.{Zero, Raw, Slotted}
+use Rattle.page_slots.specs.declared.desc.Slots.{Slots}
+use Rattle.page_slots.specs.declared.desc.Slots.TheVariants.{Packed, Mid}
 use Rattle.page_slots.specs.declared.form.Form.{Form}
 use Rattle.page_slots.specs.Descs.{content_of}
-use Rattle.page_slots.specs.Forms.{packed_form, room}
+use Rattle.page_slots.specs.Forms.{form_of, order_of, room}
 use Rattle.page_slots.specs.Lines.{meta, chunk_of, HasLine}
 use Rattle.page_slots.specs.Puts.{in_slot, in_chunk}
 use Rattle.page_slots.specs.Sound.{IsSound}
@@ -42,22 +44,23 @@ pub record LaidUpTo (codec : Codec) (form : Form) (lines : List (List ℕ)) (n :
 abbrev pub bytes_for : Codec → Shape → List (List ℕ) → List ℕ
 bytes_for codec Zero lines = []
 bytes_for codec Raw lines = tabulate (λ i. slice_index (slice_index_or lines (i / 64) []) (i % 64)) 4096
-bytes_for codec (Packed order target) lines = laid codec (packed_form order target) lines 64
+bytes_for codec (Slotted slots) lines = laid codec (form_of slots) lines 64
 
--- a block of so many bytes is one for a page of this shape with these lines
+-- a block of so many bytes is one for a page of this shape with these lines; no half-moved page is laid
 abbrev pub HasRoomFor : Codec → Shape → List (List ℕ) → ℕ → Type 0
 HasRoomFor codec Zero lines size = (size ≡ 0) × All (λ line. line ≡ zero_line) lines
 HasRoomFor codec Raw lines size = size ≡ 4096
-HasRoomFor codec (Packed order target) lines size = IsPackedSize order size × (IsTarget target × (chunks_of (stored_sizes codec lines) target ≤ cap order))
+HasRoomFor codec (Slotted (Packed order target)) lines size = IsPackedSize order size × (IsTarget target × (chunks_of (stored_sizes codec lines) target ≤ cap order))
+HasRoomFor codec (Slotted (Mid order small large at)) lines size = ⊥
 
 -- the packed page has the lines, with the exceptions in line order in the chunks behind the slots
 pub record IsLaid (codec : Codec) (order target : ℕ) (lines : List (List ℕ)) (bytes : List ℕ) : Type 0 where
-  pub sound : IsSound codec (Packed order target) bytes
-  pub content : content_of (Packed order target) bytes ≡ lines
+  pub sound : IsSound codec (Slotted (Packed order target)) bytes
+  pub content : content_of (Slotted (Packed order target)) bytes ≡ lines
   pub in_order : (i : ℕ) → i < 64 → 128 ≤ meta bytes i → chunk_of (meta bytes i) ≡ next_chunk codec target lines i
-  pub bytes_are : bytes ≡ bytes_for codec (Packed order target) lines
+  pub bytes_are : bytes ≡ bytes_for codec (Slotted (Packed order target)) lines
 
--- the block of a sound packed page has chunks enough for its lines to be laid in it again
-abbrev pub PackedPagesHaveRoom : Type 0
-PackedPagesHaveRoom = (codec : Codec) (order target : ℕ) (bytes : List ℕ) → IsSound codec (Packed order target) bytes
-    → chunks_of (stored_sizes codec (content_of (Packed order target) bytes)) target ≤ cap order
+-- the block of a sound page in slots has chunks enough for its lines to be laid in it with the larger slots
+abbrev pub SlottedPagesHaveRoom : Type 0
+SlottedPagesHaveRoom = (codec : Codec) (slots : Slots) (bytes : List ℕ) → IsSound codec (Slotted slots) bytes
+    → chunks_of (stored_sizes codec (content_of (Slotted slots) bytes)) (form_of slots).large ≤ cap (order_of slots)

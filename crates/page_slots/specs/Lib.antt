@@ -1,7 +1,9 @@
+pub mod Chunks
 pub mod Descs
 pub mod Forms
 pub mod Laid
 pub mod Lines
+pub mod Moves
 pub mod Places
 pub mod Puts
 pub mod Sound

@@ -3,13 +3,13 @@ use Rattle.std.specs.Prelude.{ℕ, ◌≡◌, ◌≢◌, ◌↔◌, ◌+◌, ◌
 use Rattle.hier_types.specs.declared.settings.Codec.{Codec}
 use Rattle.line_codec.specs.Slots.{fits, stored, used_in}
 use Rattle.page_slots.specs.declared.desc.Shape.{Shape}
-use Rattle.page_slots.specs.declared.desc.Shape.TheVariants.{Zero, Raw, Packed}
+use Rattle.page_slots.specs.declared.desc.Shape.TheVariants.{Zero, Raw, Slotted}
 use Rattle.page_slots.specs.declared.form.Form.{Form}
 use Rattle.page_slots.specs.declared.placing.PlaceKind.{PlaceKind}
 use Rattle.page_slots.specs.declared.placing.PlaceKind.TheVariants as kinds
 use Rattle.page_slots.specs.declared.placing.PlaceRow.{PlaceRow}
 use Rattle.page_slots.specs.Descs.{line_of}
-use Rattle.page_slots.specs.Forms.{packed_form, room, slot_start, Apart}
+use Rattle.page_slots.specs.Forms.{form_of, room, slot_start, Apart}
 use Rattle.page_slots.specs.Lines.{meta, chunk_of, slot}
 use Rattle.page_slots.specs.Sound.{IsSound}
 
@@ -30,8 +30,8 @@ unfoldable pub line_row : Form → List ℕ → ℕ → PlaceRow
 line_row form bytes i = if nat_le 128 (meta bytes i) then chunk_row kinds.Exception i (chunk_of (meta bytes i)) else slot_row form bytes i
 
 -- the places of a page in such a form: the block, the metadata and the lines
-unfoldable pub packed_place : Form → List ℕ → ℕ → Option PlaceRow
-packed_place form bytes index =
+unfoldable pub slotted_place : Form → List ℕ → ℕ → Option PlaceRow
+slotted_place form bytes index =
     if index == 0 then Some (block_row (length bytes))
     else if index == 1 then Some (chunk_row kinds.Meta 64 0)
     else if nat_lt index 66 then Some (line_row form bytes (index - 2))
@@ -48,7 +48,7 @@ raw_place bytes index =
 abbrev pub place_of : Shape → List ℕ → ℕ → Option PlaceRow
 place_of Zero bytes index = None
 place_of Raw bytes index = raw_place bytes index
-place_of (Packed order target) bytes index = packed_place (packed_form order target) bytes index
+place_of (Slotted slots) bytes index = slotted_place (form_of slots) bytes index
 
 -- a place lies among so many bytes, and uses no more than it has
 pub record IsWithin (size : ℕ) (row : PlaceRow) : Type 0 where
@@ -80,7 +80,7 @@ pub record IsPlaceOf (shape : Shape) (bytes : List ℕ) (line index : ℕ) : Typ
 abbrev pub places_before : Shape → ℕ
 places_before Zero = 0
 places_before Raw = 1
-places_before (Packed order target) = 2
+places_before (Slotted slots) = 2
 
 -- each line of a page that is not zero has one place, behind those that are no line's
 abbrev pub LinesHaveOnePlace : Type 0
@@ -99,7 +99,7 @@ kind_for codec form i line = if fits codec (room form i) line then kinds.Slot el
 abbrev pub HasKindFor : Codec → Shape → List ℕ → PlaceRow → Type 0
 HasKindFor codec Zero line row = ⊥
 HasKindFor codec Raw line row = row.kind ≡ kinds.Raw
-HasKindFor codec (Packed order target) line row = row.kind ≡ kind_for codec (packed_form order target) row.line line
+HasKindFor codec (Slotted slots) line row = row.kind ≡ kind_for codec (form_of slots) row.line line
 
 -- a place is that of this line
 pub record SuitsLine (codec : Codec) (shape : Shape) (line : List ℕ) (row : PlaceRow) : Type 0 where

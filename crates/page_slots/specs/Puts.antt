@@ -4,9 +4,9 @@ use Rattle.hier_types.specs.declared.settings.Codec.{Codec}
 use Rattle.byte_parts.specs.Parts.{written}
 use Rattle.line_codec.specs.Slots.{encoding, fits, padded}
 use Rattle.page_slots.specs.declared.desc.Shape.{Shape}
-use Rattle.page_slots.specs.declared.desc.Shape.TheVariants.{Zero, Raw, Packed}
+use Rattle.page_slots.specs.declared.desc.Shape.TheVariants.{Zero, Raw, Slotted}
 use Rattle.page_slots.specs.declared.form.Form.{Form}
-use Rattle.page_slots.specs.Forms.{packed_form, room, slot_start}
+use Rattle.page_slots.specs.Forms.{form_of, room, slot_start}
 use Rattle.page_slots.specs.Lines.{meta, chunk_of, mark, HasLine}
 
 -- no line has the chunk
@@ -53,13 +53,13 @@ pub record GoesToPlace (codec : Codec) (form : Form) (line : ℕ) (from old new 
 
 -- there is no place for the line: in a page whose lines stand one after another there always is one
 abbrev pub Overflows : Codec → Shape → List ℕ → ℕ → List ℕ → Type 0
-Overflows codec (Packed order target) bytes line from = HasNoPlace codec (packed_form order target) bytes line from
+Overflows codec (Slotted slots) bytes line from = HasNoPlace codec (form_of slots) bytes line from
 Overflows codec shape bytes line from = ⊥
 
 -- the line went where it belongs, and nothing else changed: in a page whose lines stand one after another each has its
 -- one place, and a page of zeros has none
 abbrev pub GoesRight : Codec → Shape → ℕ → List ℕ → List ℕ → List ℕ → Type 0
-GoesRight codec (Packed order target) line from old new = GoesToPlace codec (packed_form order target) line from old new
+GoesRight codec (Slotted slots) line from old new = GoesToPlace codec (form_of slots) line from old new
 GoesRight codec Raw line from old new = new ≡ written (64 * line) from old
 GoesRight codec Zero line from old new = ⊥
 

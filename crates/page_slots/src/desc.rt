@@ -1,8 +1,9 @@
 // How one page is kept.
-ghost use Rattle.std.specs.Prelude.{◌≡◌, ◌≤◌};
-ghost use Rattle.page_slots.specs.Descs.{shape_of, size_of};
+ghost use Rattle.std.specs.Prelude.{◌≡◌, ◌≤◌, Some};
+ghost use Rattle.buddy_frames.specs.Units.{Place};
+ghost use Rattle.page_slots.specs.Descs.{block_of, shape_of, size_of};
+ghost use Rattle.page_slots.specs.Forms.{order_of};
 
-use crate::form::chunks_in;
 use buddy_frames::Block;
 
 /// How a page is kept, with the block that it holds.
@@ -22,6 +23,17 @@ pub enum Desc {
         /// The bytes of each slot: 4, 8, 12, 16, 20, 24 or 28.
         target: u8,
     },
+    /// The same, on the way from slots of one length to slots of another.
+    Mid {
+        /// The block that the page holds; its order is 0 to 2.
+        block: Block,
+        /// The bytes of each slot below line `at`.
+        small: u8,
+        /// The bytes of each slot from line `at` on: more than `small`.
+        large: u8,
+        /// The first line with a slot of `large` bytes, 1 to 63.
+        at: u8,
+    },
 }
 
 /// How the bytes of a page are read, whatever block they stand in.
@@ -32,11 +44,29 @@ pub enum Shape {
     /// The lines one after another, in 4,096 bytes.
     Raw,
     /// Each line in its slot, or uncompressed in a chunk of its own.
+    Slotted(Slots),
+}
+
+/// Where the slots of a page are.
+#[derive(Clone, Copy, Debug, PartialEq, Eq)]
+pub enum Slots {
+    /// All slots have the same length.
     Packed {
         /// The order of the block, 0 to 2: the page has the bytes of `2 ^ order` units of 512.
         order: u8,
         /// The bytes of each slot: 4, 8, 12, 16, 20, 24 or 28.
         target: u8,
+    },
+    /// The slots below line `at` have one length already, the others have another still.
+    Mid {
+        /// The order of the block, 0 to 2.
+        order: u8,
+        /// The bytes of each slot below line `at`.
+        small: u8,
+        /// The bytes of each slot from line `at` on: more than `small`.
+        large: u8,
+        /// The first line with a slot of `large` bytes, 1 to 63.
+        at: u8,
     },
 }
 
@@ -48,11 +78,58 @@ impl Desc {
         match self {
             Desc::Zero => Shape::Zero,
             Desc::Raw { .. } => Shape::Raw,
-            Desc::Packed { block, target } => Shape::Packed {
+            Desc::Packed { block, target } => Shape::Slotted(Slots::Packed {
                 order: block.order(),
                 target: *target,
-            },
+            }),
+            Desc::Mid {
+                block,
+                small,
+                large,
+                at,
+            } => Shape::Slotted(Slots::Mid {
+                order: block.order(),
+                small: *small,
+                large: *large,
+                at: *at,
+            }),
         }
+    }
+
+    /// The page in the same block, with its slots elsewhere. The slots have to be in a block of the order that the page
+    /// holds.
+    pub fn with_slots(self, slots: Slots) -> Desc
+        requires { (block : Place) × ((block_of self ≡ Some block) × (block.order ≡ order_of slots)) }
+        ensures shape { shape_of result ≡ Shape.Slotted slots }
+        ensures block { block_of result ≡ block_of self }
+    {
+        match self {
+            Desc::Zero => unreachable!(),
+            Desc::Raw { block } | Desc::Packed { block, .. } | Desc::Mid { block, .. } => {
+                in_slots(block, slots)
+            }
+        }
+    }
+}
+
+fn in_slots(block: Block, slots: Slots) -> Desc
+    requires { block.order ≡ order_of slots }
+    ensures shape { shape_of result ≡ Shape.Slotted slots }
+    ensures block { block_of result ≡ Some block }
+{
+    match slots {
+        Slots::Packed { target, .. } => Desc::Packed { block, target },
+        Slots::Mid {
+            small,
+            large,
+            at,
+            ..
+        } => Desc::Mid {
+            block,
+            small,
+            large,
+            at,
+        },
     }
 }
 
@@ -65,7 +142,7 @@ impl Shape {
         match self {
             Shape::Zero => 0,
             Shape::Raw => 4096,
-            Shape::Packed { order, .. } => 64 * chunks_in(order) as usize,
+            Shape::Slotted(slots) => 64 * slots.form().chunks as usize,
         }
     }
 }

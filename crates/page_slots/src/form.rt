@@ -1,7 +1,9 @@
 // Where the slots of a page are.
 ghost use Rattle.std.specs.Prelude.{◌≡◌, ◌<◌, ◌≤◌, ◌+◌, ◌*◌};
 ghost use Rattle.line_codec.specs.Layout.{cap};
-ghost use Rattle.page_slots.specs.Forms.{packed_form, room, slot_start};
+ghost use Rattle.page_slots.specs.Forms.{form_of, room, slot_start};
+
+use crate::desc::Slots;
 
 /// Where the slots of a page are, and how many chunks its block has. The slots of the lines below `at` have `small`
 /// bytes each, the others `large`.
@@ -13,8 +15,8 @@ pub(crate) struct Form {
     pub(crate) chunks: u8,
 }
 
-// The chunks of a packed page's block.
-pub(crate) fn chunks_in(order: u8) -> u8
+// The chunks of a block of this order.
+fn chunks_in(order: u8) -> u8
     ensures value { result ≡ cap order }
     ensures most { result ≤ 32 }
 {
@@ -25,15 +27,31 @@ pub(crate) fn chunks_in(order: u8) -> u8
     }
 }
 
-/// The form of a packed page: all slots have the same length.
-pub(crate) fn packed_form(order: u8, target: u8) -> Form
-    ensures { result ≡ packed_form order target }
-{
-    Form {
-        small: target,
-        large: target,
-        at: 0,
-        chunks: chunks_in(order),
+impl Slots {
+    /// Where the slots are.
+    pub(crate) fn form(self) -> Form
+        ensures value { result ≡ form_of self }
+        ensures most { result.chunks ≤ 32 }
+    {
+        match self {
+            Slots::Packed { order, target } => Form {
+                small: target,
+                large: target,
+                at: 0,
+                chunks: chunks_in(order),
+            },
+            Slots::Mid {
+                order,
+                small,
+                large,
+                at,
+            } => Form {
+                small,
+                large,
+                at,
+                chunks: chunks_in(order),
+            },
+        }
     }
 }
 

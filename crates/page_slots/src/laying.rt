@@ -4,10 +4,10 @@ ghost use Rattle.hier_types.specs.declared.settings.Codec.{Codec as AnyCodec};
 ghost use Rattle.line_codec.specs.Layout.{IsTarget, stored_sizes, chunks_of};
 ghost use Rattle.page_slots.specs.Descs.{content_of};
 ghost use Rattle.page_slots.specs.Forms.{IsForm, packed_form};
-ghost use Rattle.page_slots.specs.Laid.{IsPackedSize, next_chunk, LaidUpTo, IsLaid, HasRoomFor, bytes_for, PackedPagesHaveRoom};
+ghost use Rattle.page_slots.specs.Laid.{IsPackedSize, next_chunk, LaidUpTo, IsLaid, HasRoomFor, bytes_for, SlottedPagesHaveRoom};
 ghost use Rattle.page_slots.specs.Sound.{IsSound};
 
-use crate::desc::Shape;
+use crate::desc::{Shape, Slots};
 use crate::form::Form;
 use crate::putting::{put_chunk, put_slot, write_chunk};
 use hier_types::{Codec, Line};
@@ -91,9 +91,9 @@ pub fn lay_raw(lines: &[Line; 64], bytes: &mut [u8])
     }
 }
 
-/// The block of a sound packed page has chunks enough for its lines to be laid in it again.
-pub fn packed_pages_have_room()
-    ensures { PackedPagesHaveRoom }
+/// The block of a sound page in slots has chunks enough for its lines to be laid in it, with the larger of its slots.
+pub fn slotted_pages_have_room()
+    ensures { SlottedPagesHaveRoom }
 {}
 
 impl Shape {
@@ -107,7 +107,8 @@ impl Shape {
         match self {
             Shape::Zero => {}
             Shape::Raw => lay_raw(lines, bytes),
-            Shape::Packed { target, .. } => lay(codec, target, lines, bytes),
+            Shape::Slotted(Slots::Packed { target, .. }) => lay(codec, target, lines, bytes),
+            Shape::Slotted(Slots::Mid { .. }) => unreachable!(),
         }
     }
 }

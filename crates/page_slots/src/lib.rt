@@ -6,14 +6,16 @@
 mod desc;
 mod form;
 mod laying;
+mod moving;
 mod placing;
 mod putting;
 mod reading;
 #[cfg(test)]
 mod tests;
 
-pub use desc::{Desc, Shape};
-pub use laying::{lay, lay_raw, packed_pages_have_room};
+pub use desc::{Desc, Shape, Slots};
+pub use laying::{lay, lay_raw, slotted_pages_have_room};
+pub use moving::exceptions_between;
 pub use placing::{
     PlaceKind, PlaceRow, lines_have_one_place, place, places_are_apart, places_fit,
     places_suit_lines,

@@ -6,11 +6,11 @@ ghost use Rattle.byte_parts.specs.Parts.{part};
 ghost use Rattle.page_slots.specs.Descs.{shape_of, line_of};
 ghost use Rattle.page_slots.specs.Forms.{IsForm};
 ghost use Rattle.page_slots.specs.Lines.{content_at, HasLine};
-ghost use Rattle.page_slots.specs.Places.{chunk_row, block_row, line_row, packed_place, raw_place, place_of, PlacesFit, PlacesAreApart, LinesHaveOnePlace, PlacesSuitLines, UsesStored};
+ghost use Rattle.page_slots.specs.Places.{chunk_row, block_row, line_row, slotted_place, raw_place, place_of, PlacesFit, PlacesAreApart, LinesHaveOnePlace, PlacesSuitLines, UsesStored};
 ghost use Rattle.page_slots.specs.Sound.{IsSound};
 
 use crate::desc::{Desc, Shape};
-use crate::form::{Form, packed_form};
+use crate::form::Form;
 use line_codec::used_size;
 
 /// What stands in a place.
@@ -101,12 +101,12 @@ fn line_place(form: Form, bytes: &[u8], line: u8) -> PlaceRow
     }
 }
 
-#[tactic(auto, unfolding(crate::specs::Places::packed_place))]
-fn packed_place(form: Form, bytes: &[u8], index: u8) -> Option<PlaceRow>
+#[tactic(auto, unfolding(crate::specs::Places::slotted_place))]
+fn slotted_place(form: Form, bytes: &[u8], index: u8) -> Option<PlaceRow>
     requires is_form { IsForm form (length bytes.now) }
     requires has_lines { (codec : AnyCodec) × ((line : ℕ) → line < 64
         → HasLine codec form bytes.now line (content_at form bytes.now line)) }
-    ensures { result ≡ packed_place form bytes.now index }
+    ensures { result ≡ slotted_place form bytes.now index }
 {
     match index {
         0 => Some(block_place(bytes)),
@@ -128,7 +128,7 @@ fn raw_place(bytes: &[u8], index: u8) -> Option<PlaceRow>
     }
 }
 
-/// A place of a page by its index. Index 0 is the whole block. On a packed page 1 is the metadata, and 2 to 65 are the
+/// A place of a page by its index. Index 0 is the whole block. On a page in slots 1 is the metadata, and 2 to 65 are the
 /// lines; where the lines stand one after another they are 1 to 64. A zero page has no place. None exactly where the
 /// index is past these. `bytes` are those of the page's block, on the terms of [`get`](crate::get).
 pub fn place(desc: &Desc, bytes: &[u8], index: u8) -> Option<PlaceRow>
@@ -142,7 +142,7 @@ pub fn place(desc: &Desc, bytes: &[u8], index: u8) -> Option<PlaceRow>
     match desc.shape() {
         Shape::Zero => None,
         Shape::Raw => raw_place(bytes, index),
-        Shape::Packed { order, target } => packed_place(packed_form(order, target), bytes, index),
+        Shape::Slotted(slots) => slotted_place(slots.form(), bytes, index),
     }
 }
 

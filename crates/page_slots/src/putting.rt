@@ -10,7 +10,7 @@ ghost use Rattle.page_slots.specs.Puts.{IsFree, IsTaken, AllTaken, IsLowestFree,
 ghost use Rattle.page_slots.specs.Sound.{IsSound};
 
 use crate::desc::{Desc, Shape};
-use crate::form::{Form, packed_form};
+use crate::form::Form;
 use byte_parts::write_part;
 use hier_types::{Codec, Line};
 use line_codec::to_slot;
@@ -97,7 +97,7 @@ fn is_taken(bytes: &[u8], number: u8) -> bool
     false
 }
 
-fn free_chunk(form: Form, bytes: &[u8]) -> Option<u8>
+pub(crate) fn free_chunk(form: Form, bytes: &[u8]) -> Option<u8>
     requires { IsForm form (length bytes.now) }
     ensures { MatchOption result (AllTaken form bytes.now form.chunks) (IsLowestFree form bytes.now) }
 {
@@ -111,7 +111,13 @@ fn free_chunk(form: Form, bytes: &[u8]) -> Option<u8>
 
 // Puts the line into its slot, or into the chunk that it has, or into the lowest free one.
 #[tactic(auto, using(crate::proofs::PutLemmas::rights))]
-fn put_packed(codec: Codec, form: Form, bytes: &mut [u8], line: u8, from: &Line) -> PutResult
+pub(crate) fn put_line(
+    codec: Codec,
+    form: Form,
+    bytes: &mut [u8],
+    line: u8,
+    from: &Line,
+) -> PutResult
     requires is_form { IsForm form (length bytes.old) }
     requires line_in { line < 64 }
     requires chunk_in { 128 ≤ meta bytes.old line
@@ -174,9 +180,9 @@ impl Shape {
                 write_chunk(bytes, line, from);
                 PutResult::Done
             }
-            Shape::Packed { order, target } => {
-                let form = packed_form(order, target);
-                put_packed(codec, form, bytes, line, from)
+            Shape::Slotted(slots) => {
+                let form = slots.form();
+                put_line(codec, form, bytes, line, from)
             }
         }
     }

@@ -9,7 +9,7 @@ ghost use Rattle.page_slots.specs.Lines.{chunk, content_at, HasLine};
 ghost use Rattle.page_slots.specs.Sound.{IsSound};
 
 use crate::desc::{Desc, Shape};
-use crate::form::{Form, packed_form};
+use crate::form::Form;
 use byte_parts::read_part;
 use hier_types::Line;
 use line_codec::from_slot;
@@ -30,7 +30,7 @@ fn read_slot(bytes: &[u8], start: usize, room: usize) -> Option<Line>
 }
 
 // The line from its chunk where it is an exception, else from its slot.
-fn read_packed(form: Form, bytes: &[u8], line: u8, into: &mut Line)
+pub(crate) fn read_line(form: Form, bytes: &[u8], line: u8, into: &mut Line)
     requires is_form { IsForm form (length bytes.now) }
     requires line_in { line < 64 }
     requires has_line { (codec : AnyCodec) × HasLine codec form bytes.now line (content_at form bytes.now line) }
@@ -76,9 +76,9 @@ impl Shape {
         match self {
             Shape::Zero => into.fill(0),
             Shape::Raw => read_chunk(bytes, line, into),
-            Shape::Packed { order, target } => {
-                let form = packed_form(order, target);
-                read_packed(form, bytes, line, into);
+            Shape::Slotted(slots) => {
+                let form = slots.form();
+                read_line(form, bytes, line, into);
             }
         }
     }

@@ -1,8 +1,10 @@
-ghost use Rattle.std.specs.Prelude.{◌≡◌, ◌≢◌, ◌≤◌, if◌then◌else◌};
+ghost use Rattle.std.specs.Prelude.{◌≡◌, ◌≢◌, ◌≤◌, if◌then◌else◌, IsTrue, length};
 ghost use Rattle.line_codec.specs.Slots.{fits};
-ghost use Rattle.line_codec.specs.Layout.{stored_sizes, chunks_of};
+ghost use Rattle.line_codec.specs.Layout.{IsTarget, stored_sizes, chunks_of};
+ghost use Rattle.page_slots.specs.Forms.{form_of};
+ghost use Rattle.page_slots.specs.Moves.{CanHoist};
 ghost use Rattle.page_slots.specs.Sound.{IsSound};
-ghost use Rattle.page_slots.specs.Descs.{shape_of};
+ghost use Rattle.page_slots.specs.Descs.{shape_of, content_of};
 
 use super::*;
 use buddy_frames::{Block, Frames};
@@ -52,6 +54,32 @@ fn laid(codec: Codec, lines: &[Line; 64], block: Block, bytes: &mut [u8; 512]) -
 {
     lay(codec, 4, lines, bytes);
     Desc::Packed { block, target: 4 }
+}
+
+/// A page in slots of so many bytes, in a block of order 2.
+fn laid_in(codec: Codec, target: u8, lines: &[Line; 64], bytes: &mut [u8; 2048]) -> Slots
+    requires is_target { IsTarget target }
+    requires room { chunks_of (stored_sizes codec lines.now) target ≤ 32 }
+    ensures slots { result ≡ Slots.Packed 2 target }
+    ensures sound { IsSound codec (Shape.Slotted result) bytes.new }
+    ensures content { content_of (Shape.Slotted result) bytes.new ≡ lines.now }
+{
+    let slots = Slots::Packed { order: 2, target };
+    Shape::Slotted(slots).lay(codec, lines, bytes);
+    slots
+}
+
+/// Whether an exception in one of the chunks from `low` on and below `high` can move to a chunk above `above`.
+fn can_hoist(slots: Slots, low: u8, high: u8, above: u8, bytes: &[u8]) -> bool
+    requires { 64 ≤ length bytes.now }
+    ensures { IsTrue result → CanHoist (form_of slots) low high above bytes.now }
+{
+    let form = slots.form();
+    if form.large > above || above >= form.chunks || exceptions_between(bytes, low, high) == 0 {
+        return false;
+    }
+    let taken = exceptions_between(bytes, 1 + above, form.chunks);
+    1 + above + taken < form.chunks
 }
 
 #[test]
@@ -141,10 +169,10 @@ fn places_read_back(rt: HostRuntime) {
         lines[5] = plain();
         assert!(rt; chunks_for(codec, 28, &lines) <= 32);
         let mut bytes = [0; 2048];
-        let shape = Shape::Packed {
+        let shape = Shape::Slotted(Slots::Packed {
             order: 2,
             target: 28,
-        };
+        });
         shape.lay(codec, &lines, &mut bytes);
         let desc = Desc::Packed { block, target: 28 };
         for index in 2..66u8 {
@@ -196,6 +224,62 @@ fn raw_lines_have_their_places(rt: HostRuntime) {
     lines[63] = line;
     let mut found = [[0; 64]; 64];
     gather(&desc, &bytes, &mut found);
+    assert!(rt; found == lines);
+}
+
+/// Two lines that slots of 16 bytes hold, and slots of 8 do not, between two that move as they are.
+#[test]
+fn lines_move_to_smaller_slots_and_back(rt: HostRuntime) {
+    for codec in [Codec::Bdi, Codec::Fpc] {
+        let mut lines = page_of(rising(1, 0), 2);
+        lines[2] = plain();
+        assert!(rt; chunks_for(codec, 16, &lines) <= 32);
+        assert!(rt; chunks_for(codec, 8, &lines) <= 24);
+        let mut bytes = [0; 2048];
+        let packed = laid_in(codec, 16, &lines, &mut bytes);
+        let once = packed.shift_down(codec, 8, &mut bytes);
+        let twice = once.shift_down(codec, 8, &mut bytes);
+        assert_eq!(rt;
+            twice,
+            Slots::Mid {
+                order: 2,
+                small: 8,
+                large: 16,
+                at: 2
+            }
+        );
+        assert_eq!(rt;
+            [bytes[0], bytes[1], bytes[2], bytes[3]],
+            [0x92, 0x93, 0x91, 0x40]
+        );
+        let mut found = [[0; 64]; 64];
+        Shape::Slotted(twice).gather(&bytes, &mut found);
+        assert!(rt; found == lines);
+        let back = twice.shift_up(codec, 16, &mut bytes);
+        let whole = back.shift_up(codec, 16, &mut bytes);
+        assert_eq!(rt; whole, packed);
+        assert_eq!(rt;
+            [bytes[0], bytes[1], bytes[2], bytes[3]],
+            [0, 0, 0x91, 0x40]
+        );
+        Shape::Slotted(whole).gather(&bytes, &mut found);
+        assert!(rt; found == lines);
+    }
+}
+
+#[test]
+fn exceptions_leave_chunks(rt: HostRuntime) {
+    let lines = page_of(plain(), 3);
+    assert!(rt; chunks_for(Codec::Bdi, 4, &lines) <= 32);
+    let mut bytes = [0; 2048];
+    let slots = laid_in(Codec::Bdi, 4, &lines, &mut bytes);
+    assert_eq!(rt; exceptions_between(&bytes, 5, 7), 2);
+    assert!(rt; can_hoist(slots, 0, 9, 8, &bytes));
+    slots.hoist(0, 9, 8, &mut bytes);
+    assert_eq!(rt; [bytes[0], bytes[1], bytes[2]], [0x89, 0x86, 0x87]);
+    assert_eq!(rt; exceptions_between(&bytes, 5, 7), 1);
+    let mut found = [[0; 64]; 64];
+    Shape::Slotted(slots).gather(&bytes, &mut found);
     assert!(rt; found == lines);
 }
 

@@ -1,5 +1,5 @@
 use Rattle.page_slots.proofs.PutLemmas.{free_is_place}
-use Rattle.page_slots.proofs.putting.put_packed.Goals as goal
+use Rattle.page_slots.proofs.putting.put_line.Goals as goal
 
 pub returns-clause-overflow : goal.returns-clause-overflow
 returns-clause-overflow c = (

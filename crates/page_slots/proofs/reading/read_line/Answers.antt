@@ -2,7 +2,7 @@ use Rattle.std.proofs.Common.{◌≡◌, ◌∙◌, sym, arith}
 use Rattle.page_slots.specs.Lines.{meta, content_at}
 use Rattle.page_slots.proofs.FormLemmas.{slot_in_block}
 use Rattle.page_slots.proofs.LineLemmas.{exception_of, says_chunk, slot_says_line}
-use Rattle.page_slots.proofs.reading.read_packed.Goals as goal
+use Rattle.page_slots.proofs.reading.read_line.Goals as goal
 
 pub read_chunk-requires : goal.read_chunk-requires
 read_chunk-requires c =
