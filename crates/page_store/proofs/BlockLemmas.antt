@@ -8,7 +8,7 @@ use Rattle.buddy_frames.proofs.MoveLemmas.{AreApart-swap}
 use Rattle.page_plan.specs.declared.least.PagePlan.{PagePlan}
 use Rattle.page_plan.specs.declared.least.PagePlan.TheVariants as plan
 use Rattle.page_slots.specs.declared.desc.Desc.{Desc}
-use Rattle.page_slots.specs.declared.desc.Desc.TheVariants.{Zero, Packed, Raw}
+use Rattle.page_slots.specs.declared.desc.Desc.TheVariants.{Zero, Packed, Mid, Raw}
 use Rattle.page_plan.specs.Sizes.{order_of}
 use Rattle.page_slots.specs.Descs.{block_of}
 use Rattle.page_store.specs.PageBlocks.{block_at, IsAtPlan, IsNewBlock, moved, Outgrows, ComesToPlan, HasRoom, LacksRoom, IsIn, AreSound, IsFreeFor}
@@ -123,9 +123,11 @@ order_at : (p : PagePlan) (d : Desc) (order : ℕ) → IsAtPlan p d → order_of
 order_at plan.Zero d order at e = absurd (none-some order e)
 order_at (plan.Packed k target exceptions) Zero order at e = absurd at
 order_at (plan.Packed k target exceptions) (Packed block t) order at e = (block.unit, ap (λ (o : ℕ). Some (place_at o block.unit)) (at.0 ∙ same_Some k order e))
+order_at (plan.Packed k target exceptions) (Mid block small large i) order at e = absurd at
 order_at (plan.Packed k target exceptions) (Raw block) order at e = absurd at
 order_at plan.Raw Zero order at e = absurd at
 order_at plan.Raw (Packed block t) order at e = absurd at
+order_at plan.Raw (Mid block small large i) order at e = absurd at
 order_at plan.Raw (Raw block) order at e = (block.unit, ap (λ (o : ℕ). Some (place_at o block.unit)) (at ∙ same_Some 3 order e))
 
 -- a page that came to its plan had room for it: its new block lies in no other page's

@@ -14,27 +14,32 @@ use Rattle.page_store.specs.Store.{desc_at}
 use Rattle.page_store.proofs.BlockLemmas.{at_some, block_at-get, block_live}
 use Rattle.page_store.proofs.RoomLemmas.{helds_at}
 
--- the bytes of a packed page's block are those of its units
+-- the bytes of the block of a page in slots are those of its units
 cap_units : (order : ℕ) → order ≤ 2 → 64 * cap order ≡ 512 * 2 ^ order
 cap_units order le = four (λ k. k ≤ 2 → 64 * cap k ≡ 512 * 2 ^ k) order (omega arith) (λ l. refl) (λ l. refl) (λ l. refl) (λ l. absurd (omega arith)) le
 
--- where the bytes of a block begin and end
+-- where the bytes of such a block begin and end
+slots_end : (block b : Place) → Some block ≡ Some b → block.order ≤ 2 → (512 * block.unit ≡ 512 * b.unit) × (512 * block.unit + 64 * cap block.order ≡ 512 * past b)
+slots_end block b is small =
+    let size = cap_units block.order small in
+    subst (λ (p : Place). (512 * block.unit ≡ 512 * p.unit) × (512 * block.unit + 64 * cap block.order ≡ 512 * past p)) (same_Some block b is) (refl, omega arith)
+
+-- and those of a page's block
 pub ends_of : (d : Desc) (b : Place) → block_of d ≡ Some b → IsShaped d → (start_of (held_of d) ≡ 512 * b.unit) × (start_of (held_of d) + size_of (held_of d).shape ≡ 512 * past b)
 ends_of desc.Zero b is shaped = absurd (none-some b is)
 ends_of (desc.Raw block) b is shaped =
     let same : block ≡ b = same_Some block b is in
     let size : 2 ^ block.order ≡ 8 = ap (λ (k : ℕ). 2 ^ k) shaped in
     subst (λ (p : Place). (512 * block.unit ≡ 512 * p.unit) × (512 * block.unit + 4096 ≡ 512 * past p)) same (refl, omega arith)
-ends_of (desc.Packed block target) b is shaped =
-    let same : block ≡ b = same_Some block b is in
-    let size = cap_units block.order shaped in
-    subst (λ (p : Place). (512 * block.unit ≡ 512 * p.unit) × (512 * block.unit + 64 * cap block.order ≡ 512 * past p)) same (refl, omega arith)
+ends_of (desc.Packed block target) b is shaped = slots_end block b is shaped
+ends_of (desc.Mid block small large at) b is shaped = slots_end block b is shaped
 
 -- a page without a block has no bytes
 no_bytes : (d : Desc) → block_of d ≡ None → start_of (held_of d) + size_of (held_of d).shape ≡ 0
 no_bytes desc.Zero is = refl
 no_bytes (desc.Raw block) is = absurd (none-some block (sym is))
 no_bytes (desc.Packed block target) is = absurd (none-some block (sym is))
+no_bytes (desc.Mid block small large at) is = absurd (none-some block (sym is))
 
 -- a block lies in the memory
 pub block_within : (d : Desc) (used memory : List ℕ) → IsShaped d → IfSome (block_of d) (IsUsedPlace used) → length memory ≡ 4096 * length used → IsWithin memory (held_of d)
@@ -71,11 +76,13 @@ pub base_none : (d : Desc) → shape_of d ≡ Zero → option_map (λ (block : P
 base_none desc.Zero is = refl
 base_none (desc.Raw block) is = absurd (cc)
 base_none (desc.Packed block target) is = absurd (cc)
+base_none (desc.Mid block small large at) is = absurd (cc)
 
 pub base_some : (d : Desc) → shape_of d ≢ Zero → option_map (λ (block : Place). 512 * block.unit) (block_of d) ≡ Some (512 * unit_of d)
 base_some desc.Zero some = absurd (some refl)
 base_some (desc.Raw block) some = refl
 base_some (desc.Packed block target) some = refl
+base_some (desc.Mid block small large at) some = refl
 
 -- blocks of few frames begin below 2 ^ 28
 pub low_unit : (ds : List Desc) (used : List ℕ) (page : ℕ) → AreSound ds used → page < length ds → length used ≤ 65536 → shape_of (desc_at ds page) ≢ Zero

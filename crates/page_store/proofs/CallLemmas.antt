@@ -6,7 +6,7 @@ use Rattle.hier_types.specs.declared.counts.PageCounts.{PageCounts}
 use Rattle.hier_types.specs.declared.faults.NoSpace.{NoSpace}
 use Rattle.page_slots.specs.declared.desc.Desc.{Desc}
 use Rattle.page_slots.specs.declared.desc.Shape.{Shape}
-use Rattle.page_slots.specs.declared.desc.Shape.TheVariants.{Zero, Raw, Packed}
+use Rattle.page_slots.specs.declared.desc.Shape.TheVariants.{Zero, Raw, Slotted}
 use Rattle.page_store.specs.Calls.{Outline, PutsIn, Refused, StaysZero, looked_by, looked_more, looked_up, read_more, written_more}
 use Rattle.page_store.specs.Crowds.{MayRefuse}
 use Rattle.page_store.specs.PageBlocks.{Outgrows, block_at}
@@ -33,7 +33,7 @@ more_like false counts = (refl, refl, refl)
 like_by : (shape : Shape) (s : Store) (page : ℕ) → IsLike s (looked_by shape s page)
 like_by Zero s page = record { codec_is = refl; lines_are = refl; descs_are = refl; used_is = refl; ways_stay = refl; reads_are = refl; writes_are = refl; turns_are = refl; stops_are = refl }
 like_by Raw s page = record { codec_is = refl; lines_are = refl; descs_are = refl; used_is = refl; ways_stay = refl; reads_are = refl; writes_are = refl; turns_are = refl; stops_are = refl }
-like_by (Packed order target) s page =
+like_by (Slotted slots) s page =
     let counts = more_like (is_some (entry_of s.meta.lines page)) s.counts in
     record { codec_is = refl; lines_are = refl; descs_are = refl; used_is = refl; ways_stay = refl; reads_are = counts.0; writes_are = counts.1; turns_are = counts.2; stops_are = refl }
 

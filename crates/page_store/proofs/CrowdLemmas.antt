@@ -15,7 +15,7 @@ use Rattle.page_plan.specs.declared.least.PagePlan.TheVariants as plan
 use Rattle.page_plan.specs.PagePlan.{IsPlan, plan_of}
 use Rattle.page_plan.proofs.PlanLemmas.{IsPlan-plan_of}
 use Rattle.page_slots.specs.declared.desc.Desc.{Desc}
-use Rattle.page_slots.specs.declared.desc.Desc.TheVariants.{Zero, Packed, Raw}
+use Rattle.page_slots.specs.declared.desc.Desc.TheVariants.{Zero, Packed, Mid, Raw}
 use Rattle.page_plan.specs.Pages.{page_of, plans_of}
 use Rattle.page_plan.specs.Sizes.{order_of}
 use Rattle.page_slots.specs.Descs.{block_of}
@@ -31,12 +31,15 @@ use Rattle.page_store.proofs.CountLemmas.{holds, any_holds, weight, AreRuns, all
 weight_share : (k : ℕ) (p : PagePlan) (desc : Desc) → IsAtPlan p desc → weight k (block_of desc) ≡ share k p
 weight_share k plan.Zero Zero at = refl
 weight_share k plan.Zero (Packed block target) at = absurd at
+weight_share k plan.Zero (Mid block small large i) at = absurd at
 weight_share k plan.Zero (Raw block) at = absurd at
 weight_share k (plan.Packed order target exceptions) Zero at = absurd at
 weight_share k (plan.Packed order target exceptions) (Packed block t) at = ap (share_of_order k) at.0
+weight_share k (plan.Packed order target exceptions) (Mid block small large i) at = absurd at
 weight_share k (plan.Packed order target exceptions) (Raw block) at = absurd at
 weight_share k plan.Raw Zero at = absurd at
 weight_share k plan.Raw (Packed block target) at = absurd at
+weight_share k plan.Raw (Mid block small large i) at = absurd at
 weight_share k plan.Raw (Raw block) at = ap (share_of_order k) at
 
 weights_shares : (k : ℕ) (plans : List PagePlan) (ds : List Desc) → length plans ≡ length ds

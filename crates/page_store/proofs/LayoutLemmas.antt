@@ -6,14 +6,13 @@ use Rattle.std.proofs.lemmas.List.{get_or_past}
 use Rattle.std.proofs.lemmas.Option.{none-some, same_Some, slice_get-get_or, slice_get_cases}
 use Rattle.buddy_frames.specs.Units.{Place, past, IsPlace}
 use Rattle.buddy_frames.proofs.PlaceLemmas.{four}
-use Rattle.hier_types.specs.declared.settings.Codec.{Codec}
 use Rattle.page_slots.specs.declared.desc.Desc.{Desc}
-use Rattle.page_slots.specs.declared.desc.Shape.{Shape}
-use Rattle.page_slots.specs.declared.desc.Shape.TheVariants.{Zero, Raw, Packed}
+use Rattle.page_slots.specs.declared.desc.Shape.TheVariants.{Zero}
 use Rattle.page_slots.specs.declared.placing.PlaceRow.{PlaceRow}
 use Rattle.page_slots.specs.Descs.{block_of, line_of, shape_of, size_of}
 use Rattle.page_slots.specs.Places.{SuitsLine, place_of}
 use Rattle.page_slots.specs.Sound.{IsSound as IsSoundPage}
+use Rattle.page_slots.proofs.ContentLemmas.{size_sound}
 use Rattle.page_slots.proofs.PlaceLemmas.{apart, fit, one_place, suits}
 use Rattle.page_store.specs.declared.room.Held.{Held}
 use Rattle.page_store.specs.PageBlocks.{base_at, block_at}
@@ -22,12 +21,6 @@ use Rattle.page_store.specs.Layouts.{LiesInFrames, SoundStoresAreLaidOut, block_
 use Rattle.page_store.specs.Store.{IsSound, Store, desc_at, shape_at}
 use Rattle.page_store.proofs.BlockRoomLemmas.{base_none, block_there, ends_of}
 use Rattle.page_store.proofs.RoomLemmas.{helds_at, length-all_lines, length-helds, line_at}
-
--- the bytes of a sound page are as many as its shape has
-size_sound : (codec : Codec) (shape : Shape) (bytes : List ℕ) → IsSoundPage codec shape bytes → length bytes ≡ size_of shape
-size_sound codec Zero bytes sound = sound
-size_sound codec Raw bytes sound = sound
-size_sound codec (Packed order target) bytes sound = sound.holds.is_size
 
 -- the block that begins at a base
 record HasBase (ds : List Desc) (page base : ℕ) : Type 0 where

@@ -14,11 +14,12 @@ use Rattle.page_plan.specs.declared.least.PagePlan.TheVariants as plan
 use Rattle.page_plan.specs.PagePlan.{plan_of}
 use Rattle.page_plan.specs.Pages.{page_of}
 use Rattle.page_slots.specs.declared.desc.Desc.{Desc}
-use Rattle.page_slots.specs.declared.desc.Desc.TheVariants.{Zero, Packed, Raw}
+use Rattle.page_slots.specs.declared.desc.Desc.TheVariants.{Zero, Packed, Mid, Raw}
 use Rattle.page_slots.specs.declared.desc.Shape.{Shape}
 use Rattle.page_slots.specs.declared.desc.Shape.TheVariants as shapes
+use Rattle.page_slots.specs.declared.desc.Slots.{Slots}
 use Rattle.page_slots.specs.Descs.{block_of}
-use Rattle.page_slots.specs.Forms.{packed_form, room}
+use Rattle.page_slots.specs.Forms.{form_of, room}
 use Rattle.page_slots.specs.Lines.{meta}
 use Rattle.page_slots.specs.Puts.{GoesRight, GoesToPlace, IsLowestFree, in_chunk}
 use Rattle.page_store.specs.Calls.{GoesIn, HasNoPlace, IsRefused, PutsIn, Refused, StaysZero, StoreRead, StoreWrite, Writes, looked_by, looked_up, written_more}
@@ -55,8 +56,10 @@ block_one used (Some old) a b same one two = elim (cases_lt old.order a.order) [
 desc_one : (used : List ℕ) (before : Option Place) (p : PagePlan) (d e : Desc) → IsAtPlan p d → IsAtPlan p e → IsNewBlock used before (block_of d) → IsNewBlock used before (block_of e) → d ≡ e
 desc_one used before plan.Zero Zero Zero at to one two = refl
 desc_one used before plan.Zero Zero (Packed block target) at to one two = absurd to
+desc_one used before plan.Zero Zero (Mid block small large i) at to one two = absurd to
 desc_one used before plan.Zero Zero (Raw block) at to one two = absurd to
 desc_one used before plan.Zero (Packed block target) e at to one two = absurd at
+desc_one used before plan.Zero (Mid block small large i) e at to one two = absurd at
 desc_one used before plan.Zero (Raw block) e at to one two = absurd at
 desc_one used before (plan.Packed order target exceptions) Zero e at to one two = absurd at
 desc_one used before (plan.Packed order target exceptions) (Packed a s) Zero at to one two = absurd to
@@ -64,12 +67,16 @@ desc_one used before (plan.Packed order target exceptions) (Packed a s) (Packed 
     let block : a ≡ b = block_one used before a b (at.0 ∙ sym to.0) one two in
     let slots : s ≡ t = at.1 ∙ sym to.1 in
     cc
+desc_one used before (plan.Packed order target exceptions) (Packed a s) (Mid b small large i) at to one two = absurd to
 desc_one used before (plan.Packed order target exceptions) (Packed a s) (Raw b) at to one two = absurd to
+desc_one used before (plan.Packed order target exceptions) (Mid a small large i) e at to one two = absurd at
 desc_one used before (plan.Packed order target exceptions) (Raw a) e at to one two = absurd at
 desc_one used before plan.Raw Zero e at to one two = absurd at
 desc_one used before plan.Raw (Packed a s) e at to one two = absurd at
+desc_one used before plan.Raw (Mid a small large i) e at to one two = absurd at
 desc_one used before plan.Raw (Raw a) Zero at to one two = absurd to
 desc_one used before plan.Raw (Raw a) (Packed b t) at to one two = absurd to
+desc_one used before plan.Raw (Raw a) (Mid b small large i) at to one two = absurd to
 desc_one used before plan.Raw (Raw a) (Raw b) at to one two = ap Raw (block_one used before a b (at ∙ sym to) one two)
 
 -- a page that is laid
@@ -125,28 +132,27 @@ goes_anew_one s page lines t u one two =
     lays_one two.mid page lines t u (subst (λ (m : Store). Lays m page lines t) mid one.lays) two.lays
 
 -- a free chunk is not below the lowest one
-lowest_least : (order target : ℕ) (bytes : List ℕ) (a b : ℕ) → IsLowestFree (packed_form order target) bytes a → IsLowestFree (packed_form order target) bytes b → a < b → ⊥
-lowest_least order target bytes a b one two lt =
+lowest_least : (slots : Slots) (bytes : List ℕ) (a b : ℕ) → IsLowestFree (form_of slots) bytes a → IsLowestFree (form_of slots) bytes b → a < b → ⊥
+lowest_least slots bytes a b one two lt =
     let taken = two.lowest a one.above lt in
     one.free taken.by taken.by_in taken.is_exception taken.is_chunk
 
 -- the lowest free chunk
-lowest_one : (order target : ℕ) (bytes : List ℕ) (a b : ℕ) → IsLowestFree (packed_form order target) bytes a → IsLowestFree (packed_form order target) bytes b → a ≡ b
-lowest_one order target bytes a b one two = elim (cases_lt a b) [
-  | inl lt ↦ absurd (lowest_least order target bytes a b one two lt)
-  | inr le ↦ elim (cases_lt b a) [ inl gt ↦ absurd (lowest_least order target bytes b a two one gt) | inr ge ↦ omega arith ]
+lowest_one : (slots : Slots) (bytes : List ℕ) (a b : ℕ) → IsLowestFree (form_of slots) bytes a → IsLowestFree (form_of slots) bytes b → a ≡ b
+lowest_one slots bytes a b one two = elim (cases_lt a b) [
+  | inl lt ↦ absurd (lowest_least slots bytes a b one two lt)
+  | inr le ↦ elim (cases_lt b a) [ inl gt ↦ absurd (lowest_least slots bytes b a two one gt) | inr ge ↦ omega arith ]
 ]
 
 -- a line that goes to its place
-place_one : (codec : Codec) (order target i : ℕ) (from old a b : List ℕ) → GoesToPlace codec (packed_form order target) i from old a → GoesToPlace codec (packed_form order target) i from old b
-    → a ≡ b
-place_one codec order target i from old a b one two = elim (cases_Bool (fits codec (room (packed_form order target) i) from)) [
+place_one : (codec : Codec) (slots : Slots) (i : ℕ) (from old a b : List ℕ) → GoesToPlace codec (form_of slots) i from old a → GoesToPlace codec (form_of slots) i from old b → a ≡ b
+place_one codec slots i from old a b one two = elim (cases_Bool (fits codec (room (form_of slots) i) from)) [
   | inl fit ↦ one.where_it_fits fit ∙ sym (two.where_it_fits fit)
   | inr unfit ↦ elim (cases_lt (meta old i) 128) [
     | inl none ↦
         let p = one.in_lowest unfit none in
         let q = two.in_lowest unfit none in
-        p.1.1 ∙ ap (λ number. in_chunk i from number old) (lowest_one order target old p.0 q.0 p.1.0 q.1.0) ∙ sym q.1.1
+        p.1.1 ∙ ap (λ number. in_chunk i from number old) (lowest_one slots old p.0 q.0 p.1.0 q.1.0) ∙ sym q.1.1
     | inr some ↦ one.in_its_chunk unfit some ∙ sym (two.in_its_chunk unfit some)
   ]
 ]
@@ -154,7 +160,7 @@ place_one codec order target i from old a b one two = elim (cases_Bool (fits cod
 right_one : (codec : Codec) (shape : Shape) (i : ℕ) (from old a b : List ℕ) → GoesRight codec shape i from old a → GoesRight codec shape i from old b → a ≡ b
 right_one codec shapes.Zero i from old a b one two = absurd one
 right_one codec shapes.Raw i from old a b one two = one ∙ sym two
-right_one codec (shapes.Packed order target) i from old a b one two = place_one codec order target i from old a b one two
+right_one codec (shapes.Slotted slots) i from old a b one two = place_one codec slots i from old a b one two
 
 -- a line that is put into its page
 puts_one : (s : Store) (page i : ℕ) (bytes : List ℕ) (t u : Store) → PutsIn s page i bytes t → PutsIn s page i bytes u → t ≡ u
@@ -218,7 +224,7 @@ anew_refused s page lines order t u one two = by_way one.way
 looked_lines : (shape : Shape) (s : Store) (page : ℕ) → (looked_by shape s page).lines ≡ s.lines
 looked_lines shapes.Zero s page = refl
 looked_lines shapes.Raw s page = refl
-looked_lines (shapes.Packed order target) s page = refl
+looked_lines (shapes.Slotted slots) s page = refl
 
 -- a write is not both granted and refused
 granted_refused : (s : Store) (line : ℕ) (bytes : List ℕ) (refusal : NoSpace) (t u : Store) → StoreWrite s line bytes (Ok tt) t → StoreWrite s line bytes (Err refusal) u → ⊥

@@ -20,6 +20,7 @@ use Rattle.page_slots.specs.declared.desc.Desc.{Desc}
 use Rattle.page_slots.specs.declared.desc.Desc.TheVariants as descs
 use Rattle.page_slots.specs.declared.desc.Shape.{Shape}
 use Rattle.page_slots.specs.declared.desc.Shape.TheVariants as shapes
+use Rattle.page_slots.specs.declared.desc.Slots.{Slots}
 use Rattle.hier_types.specs.Lines.{zero_line}
 use Rattle.page_slots.specs.Descs.{content_of, line_of, shape_of, size_of}
 use Rattle.page_slots.specs.Laid.{HasRoomFor, bytes_for}
@@ -73,9 +74,9 @@ sizes_at s memory sizes kept page before within read =
     same_Some before (kept_sizes s.codec (page_of s.lines page)) (sym there ∙ kept.sized page (omega arith))
 
 -- a page that has metadata was looked up
-pub kept_looked : (s : Store) (memory : List ℕ) (sizes : List (List ℕ)) (page order target : ℕ) (chunk : List ℕ) (counts : PageCounts) → IsKept s memory sizes → shape_at s page ≡ shapes.Packed order target
+pub kept_looked : (s : Store) (memory : List ℕ) (sizes : List (List ℕ)) (page : ℕ) (slots : Slots) (chunk : List ℕ) (counts : PageCounts) → IsKept s memory sizes → shape_at s page ≡ shapes.Slotted slots
     → chunk ≡ take 64 (bytes_at s.bytes page) → IsKept (record s { meta = looked s.meta page chunk; counts = counts }) memory sizes
-kept_looked s memory sizes page order target chunk counts kept packed is_chunk = record {
+kept_looked s memory sizes page slots chunk counts kept slotted is_chunk = record {
   sound = record {
     some = kept.sound.some;
     most = kept.sound.most;
@@ -91,7 +92,7 @@ kept_looked s memory sizes page order target chunk counts kept packed is_chunk =
           let here : entry_of (looked s.meta page chunk).lines page ≡ Some e = subst (λ (p : ℕ). entry_of (looked s.meta page chunk).lines p ≡ Some e) same is in
           let bytes : chunk ≡ e.bytes = ap (λ (x : Entry). x.bytes) (same_Some (clean_entry page chunk) e (sym (looked_page s.meta page chunk) ∙ here)) in
           subst (λ (p : ℕ). IsCopy (shape_at s p) (bytes_at s.bytes p) e.bytes) (sym same)
-          (subst (λ (f : Shape). IsCopy f (bytes_at s.bytes page) e.bytes) (sym packed) (sym bytes ∙ is_chunk))
+          (subst (λ (f : Shape). IsCopy f (bytes_at s.bytes page) e.bytes) (sym slotted) (sym bytes ∙ is_chunk))
       | inr ne ↦ kept.sound.copies q e (looked_other s.meta page chunk q e ne is)
     ];
     distinct = distinct_looked s.meta page chunk kept.sound.distinct;
@@ -106,23 +107,29 @@ kept_looked s memory sizes page order target chunk counts kept packed is_chunk =
 pub shaped_at : (p : PagePlan) (d : Desc) → IsInRange p → IsAtPlan p d → IsShaped d
 shaped_at plan.Zero descs.Zero range at = tt
 shaped_at plan.Zero (descs.Packed block target) range at = absurd at
+shaped_at plan.Zero (descs.Mid block small large i) range at = absurd at
 shaped_at plan.Zero (descs.Raw block) range at = absurd at
 shaped_at (plan.Packed order target exceptions) descs.Zero range at = absurd at
 shaped_at (plan.Packed order target exceptions) (descs.Packed block t) range at = omega (arith, range.0, at.0)
+shaped_at (plan.Packed order target exceptions) (descs.Mid block small large i) range at = absurd at
 shaped_at (plan.Packed order target exceptions) (descs.Raw block) range at = absurd at
 shaped_at plan.Raw descs.Zero range at = absurd at
 shaped_at plan.Raw (descs.Packed block target) range at = absurd at
+shaped_at plan.Raw (descs.Mid block small large i) range at = absurd at
 shaped_at plan.Raw (descs.Raw block) range at = at
 
 pub room_at : (codec : Codec) (lines : List (List ℕ)) (p : PagePlan) (d : Desc) → IsPlan codec lines p → IsAtPlan p d → HasRoomFor codec (shape_of d) lines (size_of (shape_of d))
 room_at codec lines plan.Zero descs.Zero is at = (refl, is)
 room_at codec lines plan.Zero (descs.Packed block target) is at = absurd at
+room_at codec lines plan.Zero (descs.Mid block small large i) is at = absurd at
 room_at codec lines plan.Zero (descs.Raw block) is at = absurd at
 room_at codec lines (plan.Packed order target exceptions) descs.Zero is at = absurd at
 room_at codec lines (plan.Packed order target exceptions) (descs.Packed block t) is at = rw (at.0, at.1) ((is.1.is_order.known, refl), (is.1.is_target, is.1.is_order.room))
+room_at codec lines (plan.Packed order target exceptions) (descs.Mid block small large i) is at = absurd at
 room_at codec lines (plan.Packed order target exceptions) (descs.Raw block) is at = absurd at
 room_at codec lines plan.Raw descs.Zero is at = absurd at
 room_at codec lines plan.Raw (descs.Packed block target) is at = absurd at
+room_at codec lines plan.Raw (descs.Mid block small large i) is at = absurd at
 room_at codec lines plan.Raw (descs.Raw block) is at = refl
 
 -- A page came to the plan of these lines, which are new in it.

@@ -1,25 +1,24 @@
 -- A store whose lines change in one page.
 use Rattle.std.proofs.Common.{◌≡◌, ◌≢◌, ◌<◌, ◌≤◌, ◌+◌, ◌-◌, ◌*◌, ◌∙◌, ℕ, Some, Ok, Err, List, [], ◌++◌, length, set, take, drop, replicate, slice_get, refl, sym, ap, subst, inl, inr, arith}
 use Rattle.std.proofs.lemmas.Bool.{cases_eq}
-use Rattle.std.proofs.lemmas.List.{length-set, length-replicate, get_or-set_same, get_or-set_other, drop-replicate, take-replicate}
+use Rattle.std.proofs.lemmas.List.{length-set, get_or-set_same, get_or-set_other, drop-replicate, take-replicate}
 use Rattle.std.proofs.lemmas.List.Elements.{All-append, All-take, All-drop}
 use Rattle.std.proofs.lemmas.Option.{none-some}
 use Rattle.hier_types.specs.Lines.{AreLines, zero_line}
 use Rattle.hier_types.specs.Calls.{Answer}
 use Rattle.hier_types.specs.declared.counts.PageCounts.{PageCounts}
-use Rattle.hier_types.specs.declared.settings.Codec.{Codec}
-use Rattle.hier_types.proofs.TableLemmas.{length-tabulate, get_or-tabulate}
+use Rattle.hier_types.proofs.TableLemmas.{length-tabulate}
 use Rattle.page_plan.specs.KeptSizes.{kept_sizes}
 use Rattle.page_slots.specs.declared.desc.Desc.{Desc}
 use Rattle.page_slots.specs.declared.desc.Desc.TheVariants as descs
 use Rattle.page_plan.specs.Pages.{page_of, with_page}
+use Rattle.page_slots.proofs.ContentLemmas.{content_lines}
 use Rattle.page_store.specs.PageBlocks.{AreSound}
 use Rattle.page_store.specs.Store.{Store, HasZero, IsCopy, IsKept, IsSound, desc_at, store_in}
 use Rattle.page_store.specs.Calls.{PlacesPage}
 use Rattle.page_store.proofs.ListLemmas.{get-set_same, get-set_other}
 use Rattle.page_plan.proofs.PageLemmas.{length-with_page, page_of-with, page_of-with_other}
 use Rattle.byte_parts.specs.Parts.{ChangesWithin}
-use Rattle.byte_parts.proofs.PartLemmas.{length-part}
 use Rattle.meta_cache.specs.Entries.{AreDistinct}
 use Rattle.meta_cache.proofs.EntryLemmas.{distinct_forgotten, distinct_with_copy, forgotten_other, forgotten_page, with_copy_other, with_copy_page}
 use Rattle.page_slots.specs.declared.desc.Shape.{Shape}
@@ -56,37 +55,26 @@ page_new lines page others inside whole are are_others = record {
 pub lines_of_one : (lines : List (List ℕ)) (page : ℕ) → AreLines lines → AreLines (page_of lines page)
 lines_of_one lines page are = All-take (λ line. length line ≡ 64) 64 (drop (64 * page) lines) (All-drop (λ line. length line ≡ 64) (64 * page) lines are)
 
--- what a page says has lines of 64 bytes
-content_line : (codec : Codec) (shape : Shape) (own : List ℕ) (i : ℕ) → i < 64 → IsSoundPage codec shape own → length (line_of shape own i) ≡ 64
-content_line codec shapes.Zero own i i_in sound = length-replicate {A = ℕ} 64 0
-content_line codec shapes.Raw own i i_in sound = length-part (64 * i) 64 own (omega (arith, sound))
-content_line codec (shapes.Packed order target) own i i_in sound = (sound.lines.has i i_in).whole
-
-pub content_lines : (codec : Codec) (shape : Shape) (own : List ℕ) → IsSoundPage codec shape own → AreLines (content_of shape own)
-content_lines codec shape own sound k d lt =
-    let below : k < 64 = omega (arith, length-tabulate (line_of shape own) 64) in
-    ap length (get_or-tabulate d (line_of shape own) 64 k below) ∙ content_line codec shape own k below sound
-
 -- the entries after a page became other bytes
 noted_page : (meta : Kept) (page : ℕ) (shape : Shape) (own : List ℕ) (e : Entry) → AreDistinct meta.lines → entry_of (noted meta page shape own).lines page ≡ Some e → IsCopy shape own e.bytes
 noted_page meta page shapes.Zero own e distinct is = absurd (none-some e (sym (forgotten_page meta page distinct) ∙ is))
 noted_page meta page shapes.Raw own e distinct is = absurd (none-some e (sym (forgotten_page meta page distinct) ∙ is))
-noted_page meta page (shapes.Packed order target) own e distinct is = with_copy_page meta page (take 64 own) e is
+noted_page meta page (shapes.Slotted slots) own e distinct is = with_copy_page meta page (take 64 own) e is
 
 noted_other : (meta : Kept) (page : ℕ) (shape : Shape) (own : List ℕ) (q : ℕ) → q ≢ page → entry_of (noted meta page shape own).lines q ≡ entry_of meta.lines q
 noted_other meta page shapes.Zero own q ne = forgotten_other meta page q ne
 noted_other meta page shapes.Raw own q ne = forgotten_other meta page q ne
-noted_other meta page (shapes.Packed order target) own q ne = with_copy_other meta page (take 64 own) q ne
+noted_other meta page (shapes.Slotted slots) own q ne = with_copy_other meta page (take 64 own) q ne
 
 noted_distinct : (meta : Kept) (page : ℕ) (shape : Shape) (own : List ℕ) → AreDistinct meta.lines → AreDistinct (noted meta page shape own).lines
 noted_distinct meta page shapes.Zero own distinct = distinct_forgotten meta page distinct
 noted_distinct meta page shapes.Raw own distinct = distinct_forgotten meta page distinct
-noted_distinct meta page (shapes.Packed order target) own distinct = distinct_with_copy meta page (take 64 own) distinct
+noted_distinct meta page (shapes.Slotted slots) own distinct = distinct_with_copy meta page (take 64 own) distinct
 
 pub noted_ways : (meta : Kept) (page : ℕ) (shape : Shape) (own : List ℕ) → (noted meta page shape own).ways ≡ meta.ways
 noted_ways meta page shapes.Zero own = refl
 noted_ways meta page shapes.Raw own = refl
-noted_ways meta page (shapes.Packed order target) own = refl
+noted_ways meta page (shapes.Slotted slots) own = refl
 
 -- One page is kept otherwise, or in other bytes: the store stays as it is to be kept.
 module _ (s : Store) (memory : List ℕ) (sizes : List (List ℕ)) (kept : IsKept s memory sizes) (page : ℕ) (within : page < length s.descriptors) (desc : Desc) (own : List ℕ)

@@ -22,9 +22,10 @@ use Rattle.page_plan.specs.Sizes.{order_of}
 use Rattle.page_plan.proofs.PlanLemmas.{IsPlan-plan_of, only_plan}
 use Rattle.page_slots.specs.declared.desc.Desc.{Desc}
 use Rattle.page_slots.specs.declared.desc.Desc.TheVariants as descs
+use Rattle.page_slots.specs.declared.desc.Slots.TheVariants.{Packed, Mid}
 use Rattle.page_slots.specs.Descs.{block_of, content_of, shape_of}
 use Rattle.page_slots.specs.Sound.{IsSound as IsSoundPage}
-use Rattle.page_slots.proofs.CountLemmas.{packed_room}
+use Rattle.page_slots.proofs.CountLemmas.{slotted_room}
 use Rattle.hier_types.specs.Causes.{Refuses, raised}
 use Rattle.hier_types.proofs.CauseLemmas.{later_raised}
 use Rattle.hier_types.specs.declared.counts.PageCounts.{PageCounts}
@@ -82,7 +83,10 @@ has_room codec (descs.Raw block) own order shaped sound off asks outgrown =
     omega (arith, shaped, outgrown, small_order codec lines (plan_of codec lines) order (IsPlan-plan_of codec lines) asks)
 has_room codec (descs.Packed block target) own order shaped sound off asks outgrown =
     let lines = content_of (shape_of (descs.Packed block target)) own in
-    omega (arith, outgrown, plan_below codec lines block.order target (plan_of codec lines) order shaped sound.holds.is_target (packed_room codec block.order target own sound) (IsPlan-plan_of codec lines) asks)
+    omega (arith, outgrown, plan_below codec lines block.order target (plan_of codec lines) order shaped sound.holds.targets (slotted_room codec (Packed block.order target) own sound) (IsPlan-plan_of codec lines) asks)
+has_room codec (descs.Mid block small large at) own order shaped sound off asks outgrown =
+    let lines = content_of (shape_of (descs.Mid block small large at)) own in
+    omega (arith, outgrown, plan_below codec lines block.order large (plan_of codec lines) order shaped sound.holds.targets.1.0 (slotted_room codec (Mid block.order small large at) own sound) (IsPlan-plan_of codec lines) asks)
 
 -- one page of a store as it is kept
 module _ (s : Store) (memory : List ℕ) (sizes : List (List ℕ)) (kept : IsKept s memory sizes) (page : ℕ) (within : page < length s.descriptors) where

@@ -9,7 +9,7 @@ use Rattle.meta_cache.specs.Entries.{looked}
 use Rattle.page_plan.specs.PagePlan.{plan_of}
 use Rattle.page_plan.specs.Pages.{lines_of_page, page_of, with_page}
 use Rattle.page_slots.specs.declared.desc.Shape.{Shape}
-use Rattle.page_slots.specs.declared.desc.Shape.TheVariants.{Zero, Packed}
+use Rattle.page_slots.specs.declared.desc.Shape.TheVariants.{Zero, Slotted}
 use Rattle.page_slots.specs.Puts.{GoesRight, Overflows}
 use Rattle.page_store.specs.PageBlocks.{block_at, Outgrows, LacksRoom}
 use Rattle.page_store.specs.Rooms.{bytes_at}
@@ -32,7 +32,7 @@ looked_more found counts = if found then record counts { meta_hits = raised coun
 
 -- the store after the page was looked up in the metadata cache, where it has metadata
 abbrev pub looked_by : Shape → Store → ℕ → Store
-looked_by (Packed order target) s page = record s {
+looked_by (Slotted slots) s page = record s {
   meta = looked s.meta page (take 64 (bytes_at s.bytes page));
   counts = looked_more (is_some (entry_of s.meta.lines page)) s.counts;
 }

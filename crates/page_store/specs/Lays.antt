@@ -8,7 +8,7 @@ use Rattle.page_plan.specs.PagePlan.{plan_of}
 use Rattle.page_plan.specs.Pages.{page_of}
 use Rattle.page_slots.specs.declared.desc.Desc.{Desc}
 use Rattle.page_slots.specs.declared.desc.Shape.{Shape}
-use Rattle.page_slots.specs.declared.desc.Shape.TheVariants.{Packed}
+use Rattle.page_slots.specs.declared.desc.Shape.TheVariants.{Slotted}
 use Rattle.page_slots.specs.Descs.{shape_of}
 use Rattle.page_slots.specs.Laid.{bytes_for}
 use Rattle.page_store.specs.PageBlocks.{IsAtPlan, ComesToPlan, HasRoom, LacksRoom}
@@ -18,7 +18,7 @@ use Rattle.recency.specs.Kept.{Kept}
 -- the entries after a page became these bytes: its entry, if it has one, is renewed in its place, or leaves where the page
 -- has no metadata
 abbrev pub noted : Kept → ℕ → Shape → List ℕ → Kept
-noted meta page (Packed order target) bytes = with_copy meta page (take 64 bytes)
+noted meta page (Slotted slots) bytes = with_copy meta page (take 64 bytes)
 noted meta page shape bytes = forgotten meta page
 
 -- the bytes of a page among these lines, where it is laid anew and kept so

@@ -3,14 +3,13 @@ use Rattle.std.specs.Prelude.{ℕ, ◌≡◌, ◌≢◌, ◌⊎◌, ◌+◌, ◌
 use Rattle.byte_parts.specs.Parts.{part, ChangesWithin}
 use Rattle.hier_types.specs.Tabulate.{tabulate}
 use Rattle.hier_types.specs.declared.settings.Codec.{Codec}
-use Rattle.line_codec.specs.Layout.{IsTarget}
 use Rattle.page_plan.specs.Pages.{page_of, with_page}
 use Rattle.page_slots.specs.declared.desc.Desc.{Desc}
 use Rattle.page_slots.specs.declared.desc.Desc.TheVariants as descs
 use Rattle.page_slots.specs.declared.desc.Shape.{Shape}
-use Rattle.page_slots.specs.declared.desc.Shape.TheVariants.{Zero, Raw, Packed}
+use Rattle.page_slots.specs.declared.desc.Shape.TheVariants.{Zero, Raw, Slotted}
 use Rattle.page_slots.specs.Descs.{line_of, shape_of, size_of}
-use Rattle.page_slots.specs.Sound.{IsSound}
+use Rattle.page_slots.specs.Sound.{HaveTargets, IsSound}
 use Rattle.page_store.specs.declared.room.Held.{Held}
 use Rattle.page_store.specs.declared.room.Change.{Change}
 use Rattle.page_store.specs.declared.room.Change.TheVariants.{Nothing, OneLine, AllLines}
@@ -20,6 +19,7 @@ abbrev pub unit_of : Desc → ℕ
 unit_of descs.Zero = 0
 unit_of (descs.Raw block) = block.unit
 unit_of (descs.Packed block target) = block.unit
+unit_of (descs.Mid block small large at) = block.unit
 
 -- a page's shape, and the first unit of its block
 abbrev pub held_of : Desc → Held
@@ -34,17 +34,18 @@ abbrev pub IsShaped : Desc → Type 0
 IsShaped descs.Zero = Unit {0}
 IsShaped (descs.Raw block) = block.order ≡ 3
 IsShaped (descs.Packed block target) = block.order ≤ 2
+IsShaped (descs.Mid block small large at) = block.order ≤ 2
 
--- the slots of a page have one of the lengths that slots may have
+-- the slots of a page have lengths that slots may have
 abbrev pub HasTarget : Shape → Type 0
-HasTarget (Packed order target) = IsTarget target
+HasTarget (Slotted slots) = HaveTargets slots
 HasTarget shape = Unit {0}
 
 -- the first byte of a block; a page of zeros has no bytes, from 0 on
 abbrev pub start_at : Shape → ℕ → ℕ
 start_at Zero unit = 0
 start_at Raw unit = 512 * unit
-start_at (Packed order target) unit = 512 * unit
+start_at (Slotted slots) unit = 512 * unit
 
 abbrev pub start_of : Held → ℕ
 start_of held = start_at held.shape held.unit

@@ -11,7 +11,7 @@ use Rattle.page_plan.specs.Pages.{page_of}
 use Rattle.page_slots.specs.declared.desc.Desc.{Desc}
 use Rattle.page_slots.specs.declared.desc.Desc.TheVariants as desc
 use Rattle.page_slots.specs.declared.desc.Shape.{Shape}
-use Rattle.page_slots.specs.declared.desc.Shape.TheVariants.{Packed}
+use Rattle.page_slots.specs.declared.desc.Shape.TheVariants.{Slotted}
 use Rattle.page_slots.specs.Sound.{IsSound as IsSoundPage}
 use Rattle.page_store.specs.PageBlocks.{IsAtPlan, AreSound}
 use Rattle.page_store.specs.Rooms.{IsShaped, all_bytes, all_lines, bytes_at, held_at, helds}
@@ -79,7 +79,7 @@ shape_at s page = (held_at (helds s.descriptors) page).shape
 
 -- a chunk is that of a page's metadata
 abbrev pub IsCopy : Shape → List ℕ → List ℕ → Type 0
-IsCopy (Packed order target) bytes chunk = chunk ≡ take 64 bytes
+IsCopy (Slotted slots) bytes chunk = chunk ≡ take 64 bytes
 IsCopy shape bytes chunk = ⊥
 
 -- each entry is of a page that has metadata, and is its true chunk

@@ -51,6 +51,13 @@ fn reorder(frames: &mut Frames, block: Block, order: u8) -> Result<Block, Block>
     frames.resize(block, order)
 }
 
+/// There is no place of an order for a page that is kept so.
+fn no_place(held: Desc, order: u8) -> NoPlace
+    ensures { result ≡ record { held = held; order = order } }
+{
+    NoPlace { held, order }
+}
+
 /// A block of an order for a page.
 fn block_for(frames: &mut Frames, held: Desc, order: u8) -> Result<Block, NoPlace>
     requires { IfSome (block_of held) (IsUsedPlace frames.old) }
@@ -63,24 +70,32 @@ fn block_for(frames: &mut Frames, held: Desc, order: u8) -> Result<Block, NoPlac
     match held {
         Desc::Zero => match frames.take(order) {
             Some(block) => Ok(block),
-            None => Err(NoPlace {
-                held: Desc::Zero,
-                order,
-            }),
+            None => Err(no_place(Desc::Zero, order)),
         },
         Desc::Packed { block, target } => match reorder(frames, block, order) {
             Ok(moved) => Ok(moved),
-            Err(block) => Err(NoPlace {
-                held: Desc::Packed { block, target },
+            Err(block) => Err(no_place(Desc::Packed { block, target }, order)),
+        },
+        Desc::Mid {
+            block,
+            small,
+            large,
+            at,
+        } => match reorder(frames, block, order) {
+            Ok(moved) => Ok(moved),
+            Err(block) => Err(no_place(
+                Desc::Mid {
+                    block,
+                    small,
+                    large,
+                    at,
+                },
                 order,
-            }),
+            )),
         },
         Desc::Raw { block } => match reorder(frames, block, order) {
             Ok(moved) => Ok(moved),
-            Err(block) => Err(NoPlace {
-                held: Desc::Raw { block },
-                order,
-            }),
+            Err(block) => Err(no_place(Desc::Raw { block }, order)),
         },
     }
 }
@@ -93,6 +108,7 @@ fn release(frames: &mut Frames, held: Desc)
     match held {
         Desc::Zero => {}
         Desc::Packed { block, .. } => frames.give(block),
+        Desc::Mid { block, .. } => frames.give(block),
         Desc::Raw { block } => frames.give(block),
     }
 }

@@ -17,7 +17,7 @@ ghost use Rattle.page_store.specs.Rooms.{bytes_of, IsWithin, IsInPage, changed, 
 use crate::blocks::Blocks;
 use crate::page_lines::lines_in;
 use crate::room::{Change, Held, relay};
-use crate::totals::lying;
+use crate::totals::row_of_shape;
 use hier_types::{
     Codec, Geometry, Layer, Line, LineNo, NoMemory, NoSpace, PAGE_LINES, PageCounts, PageNo, Totals,
 };
@@ -74,7 +74,7 @@ fn note(meta: &mut MetaCache, page: PageNo, held: Held, memory: &[u8])
     ensures { meta.new ≡ noted meta.old page.0 held.shape (bytes_of memory.now held) }
 {
     match held.shape {
-        Shape::Packed { .. } => meta.renew(page, &held.chunk(memory)),
+        Shape::Slotted(_) => meta.renew(page, &held.chunk(memory)),
         _ => meta.forget(page),
     }
 }
@@ -130,7 +130,7 @@ impl Pages {
     {
         let page = PageNo(line.0 / PAGE_LINES);
         let held = self.blocks.held(page.0 as usize);
-        let Shape::Packed { .. } = held.shape else {
+        let Shape::Slotted(_) = held.shape else {
             return;
         };
         let chunk = held.chunk(&self.memory);
@@ -335,7 +335,7 @@ impl Pages {
     {
         let sizes = &self.sizes[page];
         let held = self.blocks.held(page);
-        sizes.row(self.codec, lying(held.shape, sizes))
+        row_of_shape(self.codec, held.shape, sizes)
     }
 
     /// What the pages take as they lie, summed anew from how each is kept and from the sizes of its lines. Where each is

@@ -36,6 +36,7 @@ impl Held {
             Desc::Zero => 0,
             Desc::Raw { block } => block.unit(),
             Desc::Packed { block, .. } => block.unit(),
+            Desc::Mid { block, .. } => block.unit(),
         };
         Held {
             shape: desc.shape(),
@@ -51,7 +52,7 @@ impl Held {
         match self.shape {
             Shape::Zero => 0,
             Shape::Raw => 512 * self.unit as usize,
-            Shape::Packed { .. } => 512 * self.unit as usize,
+            Shape::Slotted(_) => 512 * self.unit as usize,
         }
     }
 

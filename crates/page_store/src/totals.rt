@@ -1,28 +1,35 @@
-// The plan that a page keeps to.
+// What a page takes as it lies.
 ghost use Rattle.std.specs.Prelude.{◌≡◌, ℕ, List};
 ghost use Rattle.hier_types.specs.Lines.{AreLines};
-ghost use Rattle.hier_types.specs.declared.settings.Codec.{Codec as AnyCodec};
 ghost use Rattle.line_codec.specs.Layout.{stored_sizes};
 ghost use Rattle.page_plan.specs.KeptSizes.{kept_sizes};
 ghost use Rattle.page_store.specs.Rooms.{HasTarget};
-ghost use Rattle.page_store.specs.Rows.{lying};
+ghost use Rattle.page_store.specs.Rows.{row_of_shape};
 
-use page_plan::{PagePlan, PageSizes};
-use page_slots::Shape;
+use hier_types::Codec;
+use page_plan::PageSizes;
+use page_slots::{Shape, Slots};
+use size_ledger::SizeRow;
 
-/// The plan that a page keeps to whose lines have these sizes, whether it is the least one or not.
-pub(crate) fn lying(shape: Shape, sizes: &PageSizes) -> PagePlan
+/// What a page of a shape takes whose lines have these sizes, whether it is at its plan or not.
+pub(crate) fn row_of_shape(codec: Codec, shape: Shape, sizes: &PageSizes) -> SizeRow
     requires { HasTarget shape }
-    ensures { (codec : AnyCodec) (lines : List (List ℕ)) → AreLines lines → kept_sizes codec lines ≡ sizes.now
-        → result ≡ lying shape (stored_sizes codec lines) }
+    ensures { (lines : List (List ℕ)) → AreLines lines → kept_sizes codec lines ≡ sizes.now
+        → result ≡ row_of_shape shape (stored_sizes codec lines) }
 {
     match shape {
-        Shape::Zero => PagePlan::Zero,
-        Shape::Raw => PagePlan::Raw,
-        Shape::Packed { order, target } => PagePlan::Packed {
-            order,
-            target,
-            exceptions: sizes.exceptions(target),
-        },
+        Shape::Zero => SizeRow::ZEROS,
+        Shape::Raw => SizeRow::PLAIN,
+        Shape::Slotted(Slots::Packed { order, target }) => {
+            sizes.row_in_slots(codec, order, target, target, 0)
+        }
+        Shape::Slotted(
+            Slots::Mid {
+                order,
+                small,
+                large,
+                at,
+            },
+        ) => sizes.row_in_slots(codec, order, small, large, at),
     }
 }

@@ -34,8 +34,8 @@ pub invariant_of-self : goal.invariant_of-self
 invariant_of-self c' =
     let c = (goal.at.invariant_of-self c').After-held-held in
     rw c'.look.ensures.after (record {
-      kept = own.kept_looked (seen c) c.self.inside.memory.items c.self.inside.sizes.items (c.args.line.0 / 64) c'.in-Packed.order c'.in-Packed.target c'.chunk-chunk.result _ c.self.invariant.kept
-          (shape_is c ∙ c'.in-Packed.is) (own_chunk c c'.deref.result.now c'.chunk-chunk.result c'.deref.ensures.value c'.chunk-chunk.ensures);
+      kept = own.kept_looked (seen c) c.self.inside.memory.items c.self.inside.sizes.items (c.args.line.0 / 64) c'.in-Slotted.field-0 c'.chunk-chunk.result _ c.self.invariant.kept
+          (shape_is c ∙ c'.in-Slotted.is) (own_chunk c c'.deref.result.now c'.chunk-chunk.result c'.deref.ensures.value c'.chunk-chunk.ensures);
       strays_are = c.self.invariant.strays_are;
     })
 
@@ -43,7 +43,7 @@ pub invariant_of-self-else-look : goal.invariant_of-self-else-look
 invariant_of-self-else-look c' =
     let c = (goal.at.invariant_of-self-else-look c').After-held-held in
     rw c'.look.ensures.after (record {
-      kept = own.kept_looked (seen c) c.self.inside.memory.items c.self.inside.sizes.items (c.args.line.0 / 64) c'.in-Packed.order c'.in-Packed.target c'.chunk-chunk.result _ c.self.invariant.kept
-          (shape_is c ∙ c'.in-Packed.is) (own_chunk c c'.deref.result.now c'.chunk-chunk.result c'.deref.ensures.value c'.chunk-chunk.ensures);
+      kept = own.kept_looked (seen c) c.self.inside.memory.items c.self.inside.sizes.items (c.args.line.0 / 64) c'.in-Slotted.field-0 c'.chunk-chunk.result _ c.self.invariant.kept
+          (shape_is c ∙ c'.in-Slotted.is) (own_chunk c c'.deref.result.now c'.chunk-chunk.result c'.deref.ensures.value c'.chunk-chunk.ensures);
       strays_are = c.self.invariant.strays_are;
     })

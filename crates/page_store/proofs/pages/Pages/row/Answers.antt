@@ -1,19 +1,18 @@
-use Rattle.std.proofs.Common.{◌≡◌, ◌<◌, ◌≤◌, ◌∙◌, ℕ, Option, IfSome, length, sym, ap, subst}
+use Rattle.std.proofs.Common.{◌≡◌, ◌<◌, ◌∙◌, length, sym, ap, subst}
 use Rattle.line_codec.specs.Layout.{stored_sizes}
-use Rattle.page_plan.specs.declared.least.PagePlan.{PagePlan}
 use Rattle.page_plan.specs.KeptSizes.{kept_sizes}
 use Rattle.page_plan.specs.Pages.{page_of}
-use Rattle.page_plan.specs.Sizes.{order_of, row_by}
 use Rattle.page_slots.specs.declared.desc.Shape.{Shape}
 use Rattle.page_store.specs.declared.room.Held.{Held}
 use Rattle.page_store.specs.Rooms.{HasTarget}
-use Rattle.page_store.specs.Rows.{lying}
+use Rattle.page_store.specs.Rows.{row_at, row_of_shape}
 use Rattle.page_store.specs.Store.{Store, shape_at, store_in}
 use Rattle.page_store.proofs.PagesLemmas as own
 use Rattle.page_store.proofs.StoreLemmas.{lines_of_one}
 use Rattle.page_store.proofs.TotalLemmas.{has_target, known_order}
 use Rattle.page_store.proofs.pages.Pages.row.Goals as goal
 use Rattle.page_store.proofs.pages.Pages.row.Goals.{After-held-held}
+use Rattle.size_ledger.specs.Ranges.{HasKnownOrder}
 
 abbrev seen : After-held-held → Store
 seen c = store_in c.self.inside.codec c.self.inside.memory.items c.self.inside.blocks.descriptors c.self.inside.blocks.used c.self.inside.meta c.self.inside.counts c.self.inside.stops
@@ -27,9 +26,9 @@ shape_is c = ap (λ (h : Held). h.shape) c.held-held.ensures ∙ sym (own.own_sh
 sizes_are : (c : After-held-held) → c.index-sizes.result.now ≡ kept_sizes c.self.inside.codec (page_of (seen c).lines c.args.page)
 sizes_are c = own.sizes_at (seen c) c.self.inside.memory.items c.self.inside.sizes.items c.self.invariant.kept c.args.page c.index-sizes.result.now (page_in c) c.index-sizes.ensures
 
-pub lying-requires : goal.lying-requires
-lying-requires c' =
-    let c = (goal.at.lying-requires c').After-held-held in
+pub row_of_shape-requires : goal.row_of_shape-requires
+row_of_shape-requires c' =
+    let c = (goal.at.row_of_shape-requires c').After-held-held in
     subst HasTarget (sym (shape_is c)) (has_target (seen c).codec (shape_at (seen c) c.args.page) _ (c.self.invariant.kept.sound.pages_are c.args.page (page_in c)))
 
 pub returns-clause-value : goal.returns-clause-value
@@ -37,16 +36,15 @@ returns-clause-value c' =
     let c = (goal.at.returns-clause-value c').After-held-held in
     let lines = page_of (seen c).lines c.args.page in
     let are = lines_of_one (seen c).lines c.args.page c.self.invariant.kept.sound.lines_are in
-    let lies : c'.lying.result ≡ lying (shape_at (seen c) c.args.page) (stored_sizes c.self.inside.codec lines) =
-    c'.lying.ensures c.self.inside.codec lines are (sym (sizes_are c)) ∙ ap (λ (f : Shape). lying f (stored_sizes c.self.inside.codec lines)) (shape_is c) in
-    rw (← c'.self.view_is) (c'.row.ensures.value lines are (sym (sizes_are c)) ∙ ap (λ (p : PagePlan). row_by p (stored_sizes c.self.inside.codec lines)) lies)
+    let lies : c'.row_of_shape.result ≡ row_at (seen c) c.args.page =
+    c'.row_of_shape.ensures lines are (sym (sizes_are c)) ∙ ap (λ (f : Shape). row_of_shape f (stored_sizes c.self.inside.codec lines)) (shape_is c) in
+    rw (← c'.self.view_is) lies
 
 pub returns-clause-known : goal.returns-clause-known
 returns-clause-known c' =
     let c = (goal.at.returns-clause-known c').After-held-held in
     let lines = page_of (seen c).lines c.args.page in
     let are = lines_of_one (seen c).lines c.args.page c.self.invariant.kept.sound.lines_are in
-    let lies : c'.lying.result ≡ lying (shape_at (seen c) c.args.page) (stored_sizes c.self.inside.codec lines) =
-    c'.lying.ensures c.self.inside.codec lines are (sym (sizes_are c)) ∙ ap (λ (f : Shape). lying f (stored_sizes c.self.inside.codec lines)) (shape_is c) in
-    subst (λ (o : Option ℕ). IfSome o (λ k. k ≤ 3)) (sym (c'.row.ensures.order ∙ ap order_of lies))
-    (known_order (seen c).codec (shape_at (seen c) c.args.page) _ _ (c.self.invariant.kept.sound.pages_are c.args.page (page_in c)))
+    let lies : c'.row_of_shape.result ≡ row_at (seen c) c.args.page =
+    c'.row_of_shape.ensures lines are (sym (sizes_are c)) ∙ ap (λ (f : Shape). row_of_shape f (stored_sizes c.self.inside.codec lines)) (shape_is c) in
+    subst HasKnownOrder (sym lies) (known_order (seen c).codec (shape_at (seen c) c.args.page) _ (stored_sizes c.self.inside.codec lines) (c.self.invariant.kept.sound.pages_are c.args.page (page_in c)))
