@@ -1,0 +1,9 @@
+pub mod CallLemmas
+pub mod FallLemmas
+pub mod FrontLemmas
+pub mod KeepLemmas
+pub mod NeedLemmas
+pub mod PlanLemmas
+pub mod RowLemmas
+pub mod TableLemmas
+pub mod TurnLemmas

@@ -1,0 +1,3 @@
+pub mod Far
+pub mod Moves
+pub mod Turns
