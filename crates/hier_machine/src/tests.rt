@@ -1,8 +1,10 @@
 use super::*;
 use elf_image::read_image;
 use hier_types::{
-    Access, Beat, BeatWord, BytesSource, Geometry, NoSpace, NullSink, PageNo, Settings,
+    Access, Beat, BeatWord, BytesSource, Codec, Geometry, Line, NoSpace, NullSink, PageNo, Settings,
 };
+use line_codec::stored_size;
+use page_slots::{PlaceKind, PlaceRow};
 use run_report::{End, Settled};
 use std::alloc::Global;
 use std::test::Fail;
@@ -219,7 +221,39 @@ fn what_was_stored_settles_and_stays(rt: HostRuntime) -> Result<(), Fail> {
     let mut after = [7; 4096];
     machine.view_page(PageNo(1), &mut after);
     assert_eq!(rt; after, before);
+    for page in 0..4u32 {
+        assert!(rt; page_suits(&machine, PageNo(page)));
+    }
     Ok(())
+}
+
+/// The place of a line is the one that its stored size asks for: none for a line of zeros in a page without a block, else
+/// its slot where that holds it, and else a chunk.
+fn suits(line: &Line, row: Option<PlaceRow>) -> bool {
+    let Some(row) = row else {
+        return *line == [0; 64];
+    };
+    match stored_size(Codec::Bdi, line) {
+        Some(size) if row.kind == PlaceKind::Slot => row.used == size as u16,
+        _ => row.kind != PlaceKind::Slot && row.used == 64,
+    }
+}
+
+/// Each line of a page stands in the memory as it reads in the machine.
+fn page_suits(machine: &Machine, page: PageNo) -> bool
+    requires { page.0 < machine.now.memory.span.pages }
+{
+    let mut bytes = [0; 4096];
+    machine.view_page(page, &mut bytes);
+    for index in 0..64u8 {
+        let mut line = [0; 64];
+        let at = 64 * index as usize;
+        line.copy_from_slice(&bytes[at..at + 64]);
+        if !suits(&line, machine.pages().layout_row(page, index + 2)) {
+            return false;
+        }
+    }
+    true
 }
 
 /// Takes what may go to another thread.
