@@ -20,7 +20,7 @@ use Rattle.page_mover.specs.declared.turning.Turn.{Turn}
 use Rattle.page_mover.specs.declared.turning.Turn.TheVariants.{Next, Zero, Rewrite, Down, Up, Hoist, Halve}
 use Rattle.page_mover.specs.declared.turning.TurnKind.{TurnKind}
 use Rattle.page_mover.specs.declared.turning.TurnKind.TheVariants as kinds
-use Rattle.page_mover.specs.Moves.{body, Makes}
+use Rattle.page_mover.specs.Moves.{body, Keeps, Makes}
 use Rattle.page_mover.specs.Far.{far_of, is_at_plan}
 use Rattle.page_mover.specs.Turns.{kind_of, turn_of}
 use Rattle.page_mover.proofs.FallLemmas.{next_far, far_zero}
@@ -172,3 +172,27 @@ hoist_call_falls codec desc shape next turn old new e told is sound same makes f
     let own : IsSound codec shape old = subst (λ (s : Shape). IsSound codec s old) (sym e) sound in
     subst (λ (s : Shape). far_of codec s new < far_of codec s old) e
     (hoist_falls codec shape next turn old new own same (told_kind codec desc shape turn kinds.Hoist old e told is) makes falls)
+
+-- and the page in its block is sound and has the same lines
+pub shift_call_keeps : (codec : Codec) (desc : Desc) (shape next after : Shape) (slots : Slots) (turn : Turn) (old new : List ℕ) → shape ≡ shape_of desc → turn ≡ turn_of codec shape old
+    → kind_of (turn_of codec (shape_of desc) old) ≡ kinds.Shift → next ≡ shapes.Slotted slots → after ≡ shapes.Slotted slots → IsSound codec (shape_of desc) old → length new ≡ length old
+    → Makes codec shape old turn next new → Keeps codec (content_of shape old) next new → IsSound codec after new × (content_of after new ≡ content_of (shape_of desc) old)
+shift_call_keeps codec desc shape next after slots turn old new e told is f g sound same makes keeps =
+    let moved : Makes codec shape old turn (shapes.Slotted slots) new = subst (λ (n : Shape). Makes codec shape old turn n new) f makes in
+    let kept : Keeps codec (content_of shape old) (shapes.Slotted slots) new = subst (λ (n : Shape). Keeps codec (content_of shape old) n new) f keeps in
+    let own : IsSound codec shape old = subst (λ (s : Shape). IsSound codec s old) (sym e) sound in
+    let whole = shift_body codec shape slots turn old new own same (told_kind codec desc shape turn kinds.Shift old e told is) moved in (
+      subst (λ (s : Shape). IsSound codec s new) (sym g) (subst (IsSound codec (shapes.Slotted slots)) whole kept.sound),
+      ap (λ (s : Shape). content_of s new) g ∙ ap (content_of (shapes.Slotted slots)) (sym whole) ∙ kept.content ∙ ap (λ (s : Shape). content_of s old) e,
+    )
+
+pub hoist_call_keeps : (codec : Codec) (desc : Desc) (shape next : Shape) (turn : Turn) (old new : List ℕ) → shape ≡ shape_of desc → turn ≡ turn_of codec shape old
+    → kind_of (turn_of codec (shape_of desc) old) ≡ kinds.Hoist → IsSound codec (shape_of desc) old → length new ≡ length old → Makes codec shape old turn next new
+    → Keeps codec (content_of shape old) next new → IsSound codec (shape_of desc) new × (content_of (shape_of desc) new ≡ content_of (shape_of desc) old)
+hoist_call_keeps codec desc shape next turn old new e told is sound same makes keeps =
+    let stays : next ≡ shape_of desc = hoist_shape codec shape next turn old new (told_kind codec desc shape turn kinds.Hoist old e told is) makes ∙ e in
+    let kept : Keeps codec (content_of shape old) (shape_of desc) new = subst (λ (n : Shape). Keeps codec (content_of shape old) n new) stays keeps in
+    let whole = body_same codec (shape_of desc) old new sound same in (
+      subst (IsSound codec (shape_of desc)) whole kept.sound,
+      ap (content_of (shape_of desc)) (sym whole) ∙ kept.content ∙ ap (λ (s : Shape). content_of s old) e,
+    )

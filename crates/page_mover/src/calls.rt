@@ -45,6 +45,8 @@ pub fn shift(codec: Codec, desc: Desc, bytes: &mut [u8]) -> Desc
     requires told { kind_of (turn_of codec (shape_of desc) bytes.old) ≡ TurnKind.Shift }
     ensures makes { MakesTurn codec (shape_of desc) bytes.old (turn_of codec (shape_of desc) bytes.old) (shape_of result) bytes.new }
     ensures block { block_of result ≡ block_of desc }
+    ensures sound { IsSound codec (shape_of result) bytes.new }
+    ensures content { content_of (shape_of result) bytes.new ≡ content_of (shape_of desc) bytes.old }
     ensures falls { far_of codec (shape_of result) bytes.new < far_of codec (shape_of desc) bytes.old }
 {
     let shape = desc.shape();
@@ -60,6 +62,8 @@ pub fn hoist(codec: Codec, desc: &Desc, bytes: &mut [u8])
     requires sound { IsSound codec (shape_of desc.now) bytes.old }
     requires told { kind_of (turn_of codec (shape_of desc.now) bytes.old) ≡ TurnKind.Hoist }
     ensures makes { MakesTurn codec (shape_of desc.now) bytes.old (turn_of codec (shape_of desc.now) bytes.old) (shape_of desc.now) bytes.new }
+    ensures sound { IsSound codec (shape_of desc.now) bytes.new }
+    ensures content { content_of (shape_of desc.now) bytes.new ≡ content_of (shape_of desc.now) bytes.old }
     ensures falls { far_of codec (shape_of desc.now) bytes.new < far_of codec (shape_of desc.now) bytes.old }
 {
     let shape = desc.shape();
