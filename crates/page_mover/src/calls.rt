@@ -8,9 +8,8 @@ ghost use Rattle.page_mover.specs.Moves.{FitsBlock, MakesTurn};
 ghost use Rattle.page_mover.specs.Turns.{kind_of, turn_of};
 
 use crate::making::make_turn;
-use crate::turning::{Turn, TurnKind, turn_by};
+use crate::turning::{Turn, TurnKind, measured, turn_by};
 use hier_types::Codec;
-use page_plan::PageSizes;
 use page_slots::{Desc, Shape};
 
 // The next turn of a page. It plans the page.
@@ -18,10 +17,8 @@ pub(crate) fn find_turn(codec: Codec, shape: Shape, bytes: &[u8]) -> Turn
     requires { IsSound codec shape bytes.now }
     ensures { result ≡ turn_of codec shape bytes.now }
 {
-    let mut lines = [[0; 64]; 64];
-    shape.gather(bytes, &mut lines);
-    let sizes = PageSizes::of(codec, &lines);
-    turn_by(shape, bytes, sizes.plan(), &sizes)
+    let (plan, sizes) = measured(codec, shape, bytes);
+    turn_by(shape, bytes, plan, &sizes)
 }
 
 /// The kind of the page's next turn. `bytes` are those of the page's block, and none where the page is zero. It plans the

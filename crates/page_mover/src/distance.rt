@@ -8,7 +8,7 @@ ghost use Rattle.page_slots.specs.Sound.{IsSound};
 ghost use Rattle.page_mover.specs.Far.{packed_far, rest, slots_far, far_of};
 ghost use Rattle.page_mover.specs.Turns.{IsMeasured, is_rewrite};
 
-use crate::turning::{Turn, chunks_in, goes_down, slots_turn};
+use crate::turning::{Turn, chunks_in, goes_down, measured, slots_turn};
 use hier_types::Codec;
 use page_plan::{PagePlan, PageSizes};
 use page_slots::{Desc, Shape, Slots, exceptions_between};
@@ -102,10 +102,8 @@ pub(crate) fn distance(codec: Codec, shape: Shape, bytes: &[u8]) -> u8
     requires { IsSound codec shape bytes.now }
     ensures { result ≡ far_of codec shape bytes.now }
 {
-    let mut lines = [[0; 64]; 64];
-    shape.gather(bytes, &mut lines);
-    let sizes = PageSizes::of(codec, &lines);
-    far_by(shape, bytes, sizes.plan(), &sizes)
+    let (plan, sizes) = measured(codec, shape, bytes);
+    far_by(shape, bytes, plan, &sizes)
 }
 
 /// How far a page is from the plan of its content: 0 exactly at the plan, at most 183, and lower after each turn that is

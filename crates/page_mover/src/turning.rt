@@ -7,6 +7,7 @@ ghost use Rattle.page_slots.specs.Descs.{content_of};
 ghost use Rattle.page_slots.specs.Sound.{IsSound};
 ghost use Rattle.page_mover.specs.Turns.{goes_down, packed_turn, slots_turn, turn_of, kind_of, IsMeasured};
 
+use hier_types::Codec;
 use page_plan::{PagePlan, PageSizes};
 use page_slots::{Shape, Slots, exceptions_between};
 
@@ -177,6 +178,17 @@ pub(crate) fn slots_turn(
             Turn::Up { large }
         },
     }
+}
+
+// The plan of a page, and the sizes of its lines. It reads each line.
+pub(crate) fn measured(codec: Codec, shape: Shape, bytes: &[u8]) -> (PagePlan, PageSizes)
+    requires { IsSound codec shape bytes.now }
+    ensures { IsMeasured codec shape bytes.now result.0 result.1 }
+{
+    let mut lines = [[0; 64]; 64];
+    shape.gather(bytes, &mut lines);
+    let sizes = PageSizes::of(codec, &lines);
+    (sizes.plan(), sizes)
 }
 
 /// The next turn of a page whose content has this plan and whose lines have these sizes. A page at its plan costs the same
