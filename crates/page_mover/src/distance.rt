@@ -1,11 +1,12 @@
 // How far a page is from its plan.
-ghost use Rattle.std.specs.Prelude.{◌≡◌, ◌≤◌, ℕ, List, length};
+ghost use Rattle.std.specs.Prelude.{◌≡◌, ◌↔◌, ◌≤◌, ℕ, List, true, length};
 ghost use Rattle.hier_types.specs.declared.settings.Codec.{Codec as AnyCodec};
 ghost use Rattle.line_codec.specs.Layout.{IsTarget, stored_sizes};
 ghost use Rattle.page_plan.specs.KeptSizes.{kept_sizes};
+ghost use Rattle.page_plan.specs.PagePlan.{plan_of};
 ghost use Rattle.page_slots.specs.Descs.{content_of, shape_of};
 ghost use Rattle.page_slots.specs.Sound.{IsSound};
-ghost use Rattle.page_mover.specs.Far.{packed_far, rest, slots_far, far_of};
+ghost use Rattle.page_mover.specs.Far.{is_at_plan, packed_far, rest, slots_far, far_of};
 ghost use Rattle.page_mover.specs.Turns.{IsMeasured, is_rewrite};
 
 use crate::turning::{Turn, chunks_in, goes_down, measured, slots_turn};
@@ -98,7 +99,7 @@ pub(crate) fn far_by(shape: Shape, bytes: &[u8], plan: PagePlan, sizes: &PageSiz
 }
 
 // How far a page of this shape is from the plan of its content. It plans the page.
-pub(crate) fn distance(codec: Codec, shape: Shape, bytes: &[u8]) -> u8
+fn distance(codec: Codec, shape: Shape, bytes: &[u8]) -> u8
     requires { IsSound codec shape bytes.now }
     ensures { result ≡ far_of codec shape bytes.now }
 {
@@ -111,6 +112,8 @@ pub(crate) fn distance(codec: Codec, shape: Shape, bytes: &[u8]) -> u8
 pub fn far(codec: Codec, desc: &Desc, bytes: &[u8]) -> u8
     requires { IsSound codec (shape_of desc.now) bytes.now }
     ensures value { result ≡ far_of codec (shape_of desc.now) bytes.now }
+    ensures at_plan { (result ≡ 0)
+        ↔ (is_at_plan (shape_of desc.now) (plan_of codec (content_of (shape_of desc.now) bytes.now)) ≡ true) }
     ensures most { result ≤ 183 }
 {
     distance(codec, desc.shape(), bytes)
