@@ -2,6 +2,8 @@
 use Rattle.std.proofs.Common.{◌≡◌, ◌≢◌, ◌↔◌, ℕ, ◌+◌, ◌-◌, ◌*◌, ◌<◌, ◌≤◌, ◌==◌, ◌&&◌, Bool, true, false, cond, refl, ap, ◌∙◌, sym, subst, arith, List, Option, length, inl, inr}
 use Rattle.std.proofs.lemmas.Bool.{cases_eq, false≢true}
 use Rattle.std.proofs.lemmas.Bool.Decides.{nat_tests}
+use Rattle.std.proofs.lemmas.List.{length-append, length-drop, length-set, length-take}
+use Rattle.byte_parts.specs.Parts.{written}
 use Rattle.hier_types.specs.declared.settings.Codec.{Codec}
 use Rattle.hier_types.proofs.TableLemmas.{length-tabulate, get_or-tabulate}
 use Rattle.line_codec.specs.Layout.{IsTarget, cap, stored_sizes, exceptions_of}
@@ -15,8 +17,8 @@ use Rattle.page_slots.specs.declared.desc.Slots.TheVariants.{Packed, Mid}
 use Rattle.page_slots.specs.Chunks.{count_in}
 use Rattle.page_slots.specs.Descs.{line_of, content_of, size_of}
 use Rattle.page_slots.specs.Forms.{form_of}
-use Rattle.page_slots.specs.Lines.{meta, chunk_of}
-use Rattle.page_slots.specs.Moves.{moved_down, moved_up}
+use Rattle.page_slots.specs.Lines.{chunk_of, content_at, mark, meta}
+use Rattle.page_slots.specs.Moves.{Hoists, moved_down, moved_up}
 use Rattle.page_slots.specs.Sound.{IsSlotted, IsSound}
 use Rattle.page_slots.proofs.ChunkLemmas.{count_add, count_few, count_leaves, count_same}
 use Rattle.page_slots.proofs.ContentLemmas.{size_sound}
@@ -404,22 +406,31 @@ halve_nearer codec (Packed own target) old next new order goal exceptions has is
     (λ i i_in. byte_of_front i (64 * cap (own - 1)) new (omega (arith, cap_least (own - 1))) ∙ ap (λ (b : List ℕ). meta b i) stay))
 halve_nearer codec (Mid own small large at) old next new order goal exceptions has is e stay keeps = absurd e
 
+-- an exception that moves to another chunk leaves the block as long as it was
+hoist_length : (codec : Codec) (slots : Slots) (low high above : ℕ) (old new : List ℕ) → IsSlotted codec slots old → Hoists (form_of slots) low high above old new → length new ≡ length old
+hoist_length codec slots low high above old new sound hoists =
+    let from = content_at (form_of slots) old hoists.line in
+    let at = 64 * hoists.number in
+    let whole : length from ≡ 64 = (sound.lines.has hoists.line hoists.taken.line_in).whole in
+    let within : at + length from ≤ length old = omega (arith, size_sound codec (shapes.Slotted slots) old sound, hoists.to.below) in
+    ap length hoists.value ∙ length-set (written at from old) hoists.line (128 + mark from + hoists.number) ∙ simp (length-append, length-take, length-drop) (omega arith)
+
 slots_nearer : (codec : Codec) (slots : Slots) (old : List ℕ) (turn : Turn) (next : Shape) (new : List ℕ) (order goal exceptions : ℕ) → HasPlan codec (sizes_of codec slots old) slots old order goal
-    → turn ≡ slots_turn (sizes_of codec slots old) slots old order goal → turn ≢ Next → length new ≡ length old → Makes codec (shapes.Slotted slots) old turn next new
+    → turn ≡ slots_turn (sizes_of codec slots old) slots old order goal → turn ≢ Next → Makes codec (shapes.Slotted slots) old turn next new
     → Keeps codec (content_of (shapes.Slotted slots) old) next new → IsNearer (sizes_of codec slots old) slots old next new order goal exceptions
-slots_nearer codec slots old Next next new order goal exceptions has is some same makes keeps = absurd (some refl)
-slots_nearer codec slots old Zero next new order goal exceptions has is some same makes keeps =
+slots_nearer codec slots old Next next new order goal exceptions has is some makes keeps = absurd (some refl)
+slots_nearer codec slots old Zero next new order goal exceptions has is some makes keeps =
     absurd (not_zero_row codec (sizes_of codec slots old) slots old order goal has is)
-slots_nearer codec slots old (Rewrite plan_order target) next new order goal exceptions has is some same makes keeps =
+slots_nearer codec slots old (Rewrite plan_order target) next new order goal exceptions has is some makes keeps =
     rewrite_nearer codec slots old next new order goal exceptions plan_order target has is makes.0
-slots_nearer codec slots old (Down small) next new order goal exceptions has is some same makes keeps =
+slots_nearer codec slots old (Down small) next new order goal exceptions has is some makes keeps =
     down_nearer codec slots old next new order goal exceptions small has is makes.0 keeps
-slots_nearer codec slots old (Up large) next new order goal exceptions has is some same makes keeps =
+slots_nearer codec slots old (Up large) next new order goal exceptions has is some makes keeps =
     up_nearer codec slots old next new order goal exceptions large has is makes.0 keeps
-slots_nearer codec slots old (Hoist low high above) next new order goal exceptions has is some same makes keeps =
-    hoist_nearer codec slots old next new order goal exceptions low high above has is same makes.0 keeps
-    (marks_hoist (form_of slots) low high above old new (form_is slots (length old) has.sound.holds) same makes.1)
-slots_nearer codec slots old Halve next new order goal exceptions has is some same makes keeps =
+slots_nearer codec slots old (Hoist low high above) next new order goal exceptions has is some makes keeps =
+    hoist_nearer codec slots old next new order goal exceptions low high above has is (hoist_length codec slots low high above old new has.sound makes.1) makes.0 keeps
+    (marks_hoist (form_of slots) low high above old new (form_is slots (length old) has.sound.holds) (hoist_length codec slots low high above old new has.sound makes.1) makes.1)
+slots_nearer codec slots old Halve next new order goal exceptions has is some makes keeps =
     halve_nearer codec slots old next new order goal exceptions has is makes.0 makes.1 keeps
 
 -- a page that gives its block back
@@ -437,20 +448,20 @@ raw_nearer codec old turn next new sizes order goal exceptions e makes =
     (omega (arith, laid_far sizes order goal (body (shapes.Slotted (Packed order goal)) new)))
 
 falls_by : (codec : Codec) (shape : Shape) (old : List ℕ) (turn : Turn) (next : Shape) (new : List ℕ) (plan : PagePlan) → plan_of codec (content_of shape old) ≡ plan
-    → turn ≡ turn_by (stored_sizes codec (content_of shape old)) shape old plan → turn ≢ Next → IsSound codec shape old → length new ≡ length old
+    → turn ≡ turn_by (stored_sizes codec (content_of shape old)) shape old plan → turn ≢ Next → IsSound codec shape old
     → Makes codec shape old turn next new → Keeps codec (content_of shape old) next new
     → far_by (stored_sizes codec (content_of shape old)) next (body next new) plan < far_by (stored_sizes codec (content_of shape old)) shape old plan
-falls_by codec shapes.Zero old turn next new plan e is some sound same makes keeps = absurd (some is)
-falls_by codec shapes.Raw old turn next new plans.Raw e is some sound same makes keeps = absurd (some is)
-falls_by codec shapes.Raw old turn next new plans.Zero e is some sound same makes keeps =
+falls_by codec shapes.Zero old turn next new plan e is some sound makes keeps = absurd (some is)
+falls_by codec shapes.Raw old turn next new plans.Raw e is some sound makes keeps = absurd (some is)
+falls_by codec shapes.Raw old turn next new plans.Zero e is some sound makes keeps =
     zero_nearer codec shapes.Raw old turn next new (stored_sizes codec (content_of shapes.Raw old)) plans.Zero is makes
-falls_by codec shapes.Raw old turn next new (plans.Packed order goal exceptions) e is some sound same makes keeps =
+falls_by codec shapes.Raw old turn next new (plans.Packed order goal exceptions) e is some sound makes keeps =
     raw_nearer codec old turn next new (stored_sizes codec (content_of shapes.Raw old)) order goal exceptions is makes
-falls_by codec (shapes.Slotted slots) old turn next new plans.Raw e is some sound same makes keeps = absurd (some is)
-falls_by codec (shapes.Slotted slots) old turn next new plans.Zero e is some sound same makes keeps =
+falls_by codec (shapes.Slotted slots) old turn next new plans.Raw e is some sound makes keeps = absurd (some is)
+falls_by codec (shapes.Slotted slots) old turn next new plans.Zero e is some sound makes keeps =
     zero_nearer codec (shapes.Slotted slots) old turn next new (sizes_of codec slots old) plans.Zero is makes
-falls_by codec (shapes.Slotted slots) old turn next new (plans.Packed order goal exceptions) e is some sound same makes keeps =
-    slots_nearer codec slots old turn next new order goal exceptions (slots_plan codec slots old order goal exceptions sound e) is some same makes keeps
+falls_by codec (shapes.Slotted slots) old turn next new (plans.Packed order goal exceptions) e is some sound makes keeps =
+    slots_nearer codec slots old turn next new order goal exceptions (slots_plan codec slots old order goal exceptions sound e) is some makes keeps
 
 -- a page that keeps its lines is as far from their plan as it says
 pub far_kept : (codec : Codec) (lines : List (List ℕ)) (next : Shape) (new : List ℕ) → Keeps codec lines next new
@@ -459,10 +470,10 @@ far_kept codec lines next new keeps = ap (λ (own : List (List ℕ)). far_by (st
 
 -- each turn that is made brings the page nearer
 pub falls : (codec : Codec) (shape : Shape) (old : List ℕ) (turn : Turn) (next : Shape) (new : List ℕ) → turn ≡ turn_of codec shape old → turn ≢ Next → IsSound codec shape old
-    → length new ≡ length old → Makes codec shape old turn next new → Keeps codec (content_of shape old) next new
+    → Makes codec shape old turn next new → Keeps codec (content_of shape old) next new
     → far_of codec next (body next new) < far_of codec shape old
-falls codec shape old turn next new is some sound same makes keeps =
-    let nearer = falls_by codec shape old turn next new (plan_of codec (content_of shape old)) refl is some sound same makes keeps in
+falls codec shape old turn next new is some sound makes keeps =
+    let nearer = falls_by codec shape old turn next new (plan_of codec (content_of shape old)) refl is some sound makes keeps in
     subst (λ (n : ℕ). n < far_of codec shape old) (sym (far_kept codec (content_of shape old) next new keeps)) nearer
 
 -- Nothing is far exactly at the plan.

@@ -10,8 +10,10 @@ use Rattle.page_plan.specs.declared.least.PagePlan.TheVariants as plan
 use Rattle.page_slots.specs.declared.desc.Desc.{Desc}
 use Rattle.page_slots.specs.declared.desc.Desc.TheVariants.{Zero, Packed, Mid, Raw}
 use Rattle.page_plan.specs.Sizes.{order_of}
-use Rattle.page_slots.specs.Descs.{block_of}
+use Rattle.page_slots.specs.declared.desc.Shape.{Shape}
+use Rattle.page_slots.specs.Descs.{block_of, shape_of}
 use Rattle.page_store.specs.PageBlocks.{block_at, IsAtPlan, IsNewBlock, moved, Outgrows, ComesToPlan, HasRoom, LacksRoom, IsIn, AreSound, IsFreeFor}
+use Rattle.page_store.specs.Turns.{ComesToShape}
 use Rattle.page_store.proofs.ChangeLemmas.{kept_block, kept_units}
 use Rattle.page_store.specs.BlockChanges.{IsApartFrom, HasNoneBut, ChangesBlock}
 
@@ -178,6 +180,18 @@ module _ (ds : List Desc) (used : List ℕ) (page : ℕ) (held : Desc) (sound : 
       record {
         desc = desc;
         at_plan = at_plan;
+        new_block = subst (λ o. IsNewBlock used o (block_of desc)) (sym block_is) changes.new_block;
+        descriptors_are = set-set ds page x desc;
+        used_is = changes.used_is ∙ ap (λ o. moved used o (block_of desc)) (sym block_is);
+      }
+
+  -- or to another shape
+  pub taken_reshaped : (x desc : Desc) (shape : Shape) (used' : List ℕ) → shape_of desc ≡ shape → ChangesBlock used (block_of held) (block_of desc) used'
+      → ComesToShape ds used page shape (set (set ds page x) page desc) used'
+  taken_reshaped x desc shape used' shape_is changes =
+      record {
+        desc = desc;
+        shape_is = shape_is;
         new_block = subst (λ o. IsNewBlock used o (block_of desc)) (sym block_is) changes.new_block;
         descriptors_are = set-set ds page x desc;
         used_is = changes.used_is ∙ ap (λ o. moved used o (block_of desc)) (sym block_is);

@@ -54,6 +54,7 @@ module _ (codec : Codec) (memory : List ℕ) (pages : ℕ) (used : List ℕ) (wa
     meta = record { ways = ways; lines = [] };
     counts = counts;
     stops = 0;
+    cursor = 0;
   }
 
   bytes_are : all_bytes memory (helds (replicate pages descs.Zero)) ≡ replicate pages []
@@ -62,7 +63,7 @@ module _ (codec : Codec) (memory : List ℕ) (pages : ℕ) (used : List ℕ) (wa
   lines_are : all_lines (helds (replicate pages descs.Zero)) (replicate pages []) ≡ replicate (64 * pages) zero_line
   lines_are = ap (λ (hs : List Held). all_lines hs (replicate pages [])) (helds_zeros pages) ∙ zero_lines pages
 
-  pub fresh_seen : store_in codec memory (replicate pages descs.Zero) used (record { ways = ways; lines = [] }) counts 0 ≡ start
+  pub fresh_seen : store_in codec memory (replicate pages descs.Zero) used (record { ways = ways; lines = [] }) counts 0 0 ≡ start
   fresh_seen =
       let lines : all_lines (helds (replicate pages descs.Zero)) (all_bytes memory (helds (replicate pages descs.Zero))) ≡ replicate (64 * pages) zero_line =
       ap (all_lines (helds (replicate pages descs.Zero))) bytes_are ∙ lines_are in
@@ -75,7 +76,7 @@ module _ (codec : Codec) (memory : List ℕ) (pages : ℕ) (used : List ℕ) (wa
   zero_shape page lt = ap (λ (hs : List Held). held_at hs page) (helds_zeros pages) ∙ get_or-replicate pages page zero_held zero_held lt
 
   pub kept_fresh : 1 ≤ pages → pages ≤ 65536 → AreSound (replicate pages descs.Zero) used → length memory ≡ 4096 * length used
-      → IsKept (store_in codec memory (replicate pages descs.Zero) used (record { ways = ways; lines = [] }) counts 0) memory (replicate pages (kept_sizes codec (replicate 64 zero_line)))
+      → IsKept (store_in codec memory (replicate pages descs.Zero) used (record { ways = ways; lines = [] }) counts 0 0) memory (replicate pages (kept_sizes codec (replicate 64 zero_line)))
   kept_fresh some most sound long =
       let counted : length (replicate pages descs.Zero) ≡ pages = length-replicate pages descs.Zero in
       let made : IsKept start memory (replicate pages (kept_sizes codec (replicate 64 zero_line))) = record {
@@ -92,6 +93,7 @@ module _ (codec : Codec) (memory : List ℕ) (pages : ℕ) (used : List ℕ) (wa
           says = sym lines_are;
           copies = λ page e is. absurd (none-some e is);
           distinct = tt;
+          cursor_in = omega (arith, counted);
         };
         stands = sym bytes_are;
         in_memory = long;

@@ -5,7 +5,10 @@ pub mod CountLemmas
 pub mod CrowdLemmas
 pub mod StoreLemmas
 pub mod ContentLemmas
+pub mod OneTurnLemmas
+pub mod SettleLemmas
 pub mod OneLemmas
+pub mod LedgerLemmas
 pub mod TotalLemmas
 pub mod RoomLemmas
 pub mod BlockRoomLemmas
@@ -16,3 +19,5 @@ pub mod CallLemmas
 pub mod FreshLemmas
 pub mod LayoutLemmas
 pub mod StrayLemmas
+pub mod TurnLemmas
+pub mod FarLemmas

@@ -1,14 +1,13 @@
 -- A call of the store has one answer, and leaves it in one state.
-use Rattle.std.proofs.Common.{◌≡◌, ◌<◌, ◌≤◌, ◌+◌, ◌*◌, ◌/◌, ◌%◌, ◌∙◌, ℕ, zero, suc, Bool, true, false, Option, Some, None, List, length, Result, Ok, Err, set, inl, inr, refl, sym, ap, subst, eqb, arith}
+use Rattle.std.proofs.Common.{◌≡◌, ◌+◌, ◌*◌, ◌/◌, ◌%◌, ◌∙◌, ℕ, zero, suc, Bool, true, false, Option, List, length, Result, Ok, Err, set, inl, inr, refl, sym, ap, subst, eqb, arith}
 use Rattle.std.specs.Prelude.{MatchBool}
-use Rattle.std.proofs.lemmas.Bool.{cases_Bool, cases_lt}
 use Rattle.std.proofs.lemmas.Option.{same_Some}
-use Rattle.buddy_frames.specs.Units.{Place, place_at, IsChoice, IsFreeBlock, given}
+use Rattle.buddy_frames.specs.Units.{Place}
 use Rattle.hier_types.specs.Calls.{Answer}
 use Rattle.hier_types.specs.Causes.{raised}
 use Rattle.hier_types.specs.declared.faults.NoSpace.{NoSpace}
 use Rattle.hier_types.specs.declared.settings.Codec.{Codec}
-use Rattle.line_codec.specs.Slots.{fits}
+use Rattle.page_mover.specs.declared.turning.Turn.TheVariants.{Next}
 use Rattle.page_plan.specs.declared.least.PagePlan.{PagePlan}
 use Rattle.page_plan.specs.declared.least.PagePlan.TheVariants as plan
 use Rattle.page_plan.specs.PagePlan.{plan_of}
@@ -17,40 +16,16 @@ use Rattle.page_slots.specs.declared.desc.Desc.{Desc}
 use Rattle.page_slots.specs.declared.desc.Desc.TheVariants.{Zero, Packed, Mid, Raw}
 use Rattle.page_slots.specs.declared.desc.Shape.{Shape}
 use Rattle.page_slots.specs.declared.desc.Shape.TheVariants as shapes
-use Rattle.page_slots.specs.declared.desc.Slots.{Slots}
 use Rattle.page_slots.specs.Descs.{block_of}
-use Rattle.page_slots.specs.Forms.{form_of, room}
-use Rattle.page_slots.specs.Lines.{meta}
-use Rattle.page_slots.specs.Puts.{GoesRight, GoesToPlace, IsLowestFree, in_chunk}
+use Rattle.page_slots.specs.Forms.{form_of}
+use Rattle.page_slots.specs.Puts.{GoesRight}
 use Rattle.page_store.specs.Calls.{GoesIn, HasNoPlace, IsRefused, PutsIn, Refused, StaysZero, StoreRead, StoreWrite, Writes, looked_by, looked_up, written_more}
 use Rattle.page_store.specs.Lays.{BringsToPlan, GoesAnew, Lays, MakesWay, TidiedUpTo, TidyStep}
 use Rattle.page_store.specs.PageBlocks.{block_at, moved, HasRoom, IsAtPlan, IsNewBlock, LacksRoom}
 use Rattle.page_store.specs.Rooms.{bytes_at}
 use Rattle.page_store.specs.Store.{Store, shape_at}
-
--- a place, by its parts
-same_place : (a b : Place) → a.order ≡ b.order → a.unit ≡ b.unit → a ≡ b
-same_place a b order unit =
-    let same : place_at a.order a.unit ≡ place_at b.order b.unit = cc in
-    same
-
--- two choices of an order
-choice_one : (used : List ℕ) (order : ℕ) (a b : Place) → IsChoice used order a → IsChoice used order b → a ≡ b
-choice_one used order a b one two =
-    let below : one.from ≤ two.from = one.least (place_at two.from b.unit) two.block two.enough in
-    let above : two.from ≤ one.from = two.least (place_at one.from a.unit) one.block one.enough in
-    let from : one.from ≡ two.from = omega arith in
-    let first : a.unit ≤ b.unit = one.lowest b.unit (subst (λ (k : ℕ). IsFreeBlock used (place_at k b.unit)) (sym from) two.block) in
-    let second : b.unit ≤ a.unit = two.lowest a.unit (subst (λ (k : ℕ). IsFreeBlock used (place_at k a.unit)) from one.block) in
-    same_place a b (one.order_is ∙ sym two.order_is) (omega arith)
-
--- two new blocks of a page of one order
-block_one : (used : List ℕ) (before : Option Place) (a b : Place) → a.order ≡ b.order → IsNewBlock used before (Some a) → IsNewBlock used before (Some b) → a ≡ b
-block_one used None a b same one two = choice_one used a.order a b one (subst (λ (k : ℕ). IsChoice used k b) (sym same) two)
-block_one used (Some old) a b same one two = elim (cases_lt old.order a.order) [
-  | inl more ↦ choice_one (given used old) a.order a b (one.1 more) (subst (λ (k : ℕ). IsChoice (given used old) k b) (sym same) (two.1 (omega arith)))
-  | inr room ↦ same_place a b same (one.0 room ∙ sym (two.0 (omega arith)))
-]
+use Rattle.page_store.specs.Turns.{turn_at}
+use Rattle.page_store.proofs.OneTurnLemmas.{IsSettled, block_one, place_one, tidy_turns_one}
 
 -- two ways to keep a page at its plan
 desc_one : (used : List ℕ) (before : Option Place) (p : PagePlan) (d e : Desc) → IsAtPlan p d → IsAtPlan p e → IsNewBlock used before (block_of d) → IsNewBlock used before (block_of e) → d ≡ e
@@ -89,12 +64,14 @@ lays_one s page lines t u one two =
     let used : t.used ≡ u.used = one.comes.used_is ∙ ap (λ d. moved s.used held (block_of d)) desc ∙ sym two.comes.used_is in
     one.is ∙ rw (desc, descriptors, used) refl ∙ sym two.is
 
+-- where no turn is left, none is made
+no_turn : (s : Store) (page : ℕ) → turn_at s page ≡ Next → IsSettled s page
+no_turn s page none v made = made.off (made.makes.makes.row ∙ none)
+
 -- a page that comes to its plan
 brings_one : (s : Store) (page : ℕ) (t u : Store) → BringsToPlan s page t → BringsToPlan s page u → t ≡ u
-brings_one s page t u (inl one) (inl two) = one.1 ∙ sym two.1
-brings_one s page t u (inl one) (inr two) = absurd (two.0 one.0)
-brings_one s page t u (inr one) (inl two) = absurd (one.0 two.0)
-brings_one s page t u (inr one) (inr two) = lays_one s page s.lines t u one.1 two.1
+brings_one s page t u one two =
+    tidy_turns_one s page one.count two.count t u one.turns two.turns (no_turn t page one.settled) (no_turn u page two.settled)
 
 -- a page in its turn
 step_one : (s : Store) (but page : ℕ) (t u : Store) → TidyStep s but page t → TidyStep s but page u → t ≡ u
@@ -131,36 +108,11 @@ goes_anew_one s page lines t u one two =
     let mid : one.mid ≡ two.mid = way_one s page (plan_of s.codec (page_of lines page)) one.mid two.mid one.way two.way in
     lays_one two.mid page lines t u (subst (λ (m : Store). Lays m page lines t) mid one.lays) two.lays
 
--- a free chunk is not below the lowest one
-lowest_least : (slots : Slots) (bytes : List ℕ) (a b : ℕ) → IsLowestFree (form_of slots) bytes a → IsLowestFree (form_of slots) bytes b → a < b → ⊥
-lowest_least slots bytes a b one two lt =
-    let taken = two.lowest a one.above lt in
-    one.free taken.by taken.by_in taken.is_exception taken.is_chunk
-
--- the lowest free chunk
-lowest_one : (slots : Slots) (bytes : List ℕ) (a b : ℕ) → IsLowestFree (form_of slots) bytes a → IsLowestFree (form_of slots) bytes b → a ≡ b
-lowest_one slots bytes a b one two = elim (cases_lt a b) [
-  | inl lt ↦ absurd (lowest_least slots bytes a b one two lt)
-  | inr le ↦ elim (cases_lt b a) [ inl gt ↦ absurd (lowest_least slots bytes b a two one gt) | inr ge ↦ omega arith ]
-]
-
--- a line that goes to its place
-place_one : (codec : Codec) (slots : Slots) (i : ℕ) (from old a b : List ℕ) → GoesToPlace codec (form_of slots) i from old a → GoesToPlace codec (form_of slots) i from old b → a ≡ b
-place_one codec slots i from old a b one two = elim (cases_Bool (fits codec (room (form_of slots) i) from)) [
-  | inl fit ↦ one.where_it_fits fit ∙ sym (two.where_it_fits fit)
-  | inr unfit ↦ elim (cases_lt (meta old i) 128) [
-    | inl none ↦
-        let p = one.in_lowest unfit none in
-        let q = two.in_lowest unfit none in
-        p.1.1 ∙ ap (λ number. in_chunk i from number old) (lowest_one slots old p.0 q.0 p.1.0 q.1.0) ∙ sym q.1.1
-    | inr some ↦ one.in_its_chunk unfit some ∙ sym (two.in_its_chunk unfit some)
-  ]
-]
-
+-- a line that goes where it belongs
 right_one : (codec : Codec) (shape : Shape) (i : ℕ) (from old a b : List ℕ) → GoesRight codec shape i from old a → GoesRight codec shape i from old b → a ≡ b
 right_one codec shapes.Zero i from old a b one two = absurd one
 right_one codec shapes.Raw i from old a b one two = one ∙ sym two
-right_one codec (shapes.Slotted slots) i from old a b one two = place_one codec slots i from old a b one two
+right_one codec (shapes.Slotted slots) i from old a b one two = place_one codec (form_of slots) i from old a b one two
 
 -- a line that is put into its page
 puts_one : (s : Store) (page i : ℕ) (bytes : List ℕ) (t u : Store) → PutsIn s page i bytes t → PutsIn s page i bytes u → t ≡ u

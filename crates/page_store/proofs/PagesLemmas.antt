@@ -26,7 +26,8 @@ use Rattle.page_slots.specs.Descs.{content_of, line_of, shape_of, size_of}
 use Rattle.page_slots.specs.Laid.{HasRoomFor, bytes_for}
 use Rattle.page_slots.specs.Sound.{IsSound as IsSoundPage}
 use Rattle.page_store.specs.declared.room.Held.{Held}
-use Rattle.page_store.specs.Lays.{Lays, laid_bytes, noted}
+use Rattle.page_store.specs.Lays.{Lays, laid_bytes}
+use Rattle.page_store.specs.Noted.{noted}
 use Rattle.page_store.specs.PageBlocks.{AreSound, ComesToPlan, IsAtPlan}
 use Rattle.page_store.specs.Rooms.{IsShaped, IsWithin, bytes_at, bytes_of, held_at, held_of, helds, start_of}
 use Rattle.page_store.specs.Store.{IsCopy, IsKept, Store, desc_at, shape_at, store_in}
@@ -96,6 +97,7 @@ kept_looked s memory sizes page slots chunk counts kept slotted is_chunk = recor
       | inr ne ↦ kept.sound.copies q e (looked_other s.meta page chunk q e ne is)
     ];
     distinct = distinct_looked s.meta page chunk kept.sound.distinct;
+    cursor_in = kept.sound.cursor_in;
   };
   stands = kept.stands;
   in_memory = kept.in_memory;
@@ -179,7 +181,7 @@ module _ (s : Store) (memory : List ℕ) (sizes : List (List ℕ)) (kept : IsKep
     value' : laid_bytes s.codec (with_page s.lines page lines) page comes.desc ≡ own
     value' = ap (bytes_for s.codec (shape_of comes.desc)) here ∙ sym (rw desc_new at value)
 
-    seen : store_in s.codec memory' (set s.descriptors page comes.desc) used (noted s.meta page (shape_of comes.desc) own) s.counts s.stops
+    seen : store_in s.codec memory' (set s.descriptors page comes.desc) used (noted s.meta page (shape_of comes.desc) own) s.counts s.stops s.cursor
         ≡ record s { lines = with_page s.lines page lines; descriptors = set s.descriptors page comes.desc; bytes = set s.bytes page own; used = used; meta = noted s.meta page (shape_of comes.desc) own }
     seen =
         change.seen_after s memory sizes kept page within comes.desc own used s.counts s.stops shaped page_sound' blocks frames memory' changes' there'
@@ -191,9 +193,9 @@ module _ (s : Store) (memory : List ℕ) (sizes : List (List ℕ)) (kept : IsKep
           meta = noted s.meta page (shape_of comes.desc) own;
         }) content'
 
-    pub lays : Lays s page (with_page s.lines page lines) (store_in s.codec memory' ds used (noted s.meta page (shape_of (desc_at ds page)) own) s.counts s.stops)
+    pub lays : Lays s page (with_page s.lines page lines) (store_in s.codec memory' ds used (noted s.meta page (shape_of (desc_at ds page)) own) s.counts s.stops s.cursor)
     lays =
-        let made : Lays s page (with_page s.lines page lines) (store_in s.codec memory' (set s.descriptors page comes.desc) used (noted s.meta page (shape_of comes.desc) own) s.counts s.stops) = record {
+        let made : Lays s page (with_page s.lines page lines) (store_in s.codec memory' (set s.descriptors page comes.desc) used (noted s.meta page (shape_of comes.desc) own) s.counts s.stops s.cursor) = record {
           comes = record {
             desc = comes.desc;
             at_plan = subst (λ (ls : List (List ℕ)). IsAtPlan (plan_of s.codec ls) comes.desc) (sym here) comes.at_plan;
@@ -212,7 +214,7 @@ module _ (s : Store) (memory : List ℕ) (sizes : List (List ℕ)) (kept : IsKep
         rw (desc_new, comes.descriptors_are) made
 
     pub kept_laid : (own_sizes : List ℕ) → own_sizes ≡ kept_sizes s.codec lines
-        → IsKept (store_in s.codec memory' ds used (noted s.meta page (shape_of (desc_at ds page)) own) s.counts s.stops) memory' (set sizes page own_sizes)
+        → IsKept (store_in s.codec memory' ds used (noted s.meta page (shape_of (desc_at ds page)) own) s.counts s.stops s.cursor) memory' (set sizes page own_sizes)
     kept_laid own_sizes sized =
         rw (desc_new, comes.descriptors_are) (subst (λ (t : Store). IsKept t memory' (set sizes page own_sizes))
         (sym (change.seen_after s memory sizes kept page within comes.desc own used s.counts s.stops shaped page_sound' blocks frames memory' changes' there'))
@@ -239,10 +241,10 @@ module _ (s : Store) (memory : List ℕ) (sizes : List (List ℕ)) (kept : IsKep
     notes_here : meta ≡ noted s.meta page (shape_of (desc_at ds page)) (bytes_of m' (held_of (desc_at ds page)))
     notes_here = notes ∙ ap (λ (x : List ℕ). noted s.meta page new.shape (bytes_of x new)) (read_is ∙ back) ∙ ap (λ (h : Held). noted s.meta page h.shape (bytes_of m' h)) new_is
 
-    pub lays_by : Lays s page (with_page s.lines page lines) (store_in s.codec kept_memory ds used meta s.counts s.stops)
+    pub lays_by : Lays s page (with_page s.lines page lines) (store_in s.codec kept_memory ds used meta s.counts s.stops s.cursor)
     lays_by = rw (back, notes_here) (lays m' (bytes_of m' (held_of (desc_at ds page))) changes_here refl sound_here content_here value_here)
 
-    pub kept_by : (own_sizes : List ℕ) → own_sizes ≡ kept_sizes s.codec lines → IsKept (store_in s.codec kept_memory ds used meta s.counts s.stops) kept_memory (set sizes page own_sizes)
+    pub kept_by : (own_sizes : List ℕ) → own_sizes ≡ kept_sizes s.codec lines → IsKept (store_in s.codec kept_memory ds used meta s.counts s.stops s.cursor) kept_memory (set sizes page own_sizes)
     kept_by own_sizes sized = rw (back, notes_here) (kept_laid m' (bytes_of m' (held_of (desc_at ds page))) changes_here refl sound_here content_here value_here own_sizes sized)
 
 -- one line of a page as another line of all
@@ -280,7 +282,7 @@ module _ (s : Store) (memory : List ℕ) (sizes : List (List ℕ)) (kept : IsKep
   put_blocks = subst (λ (xs : List Desc). AreSound xs s.used) (sym desc_same) kept.sound.blocks_are
 
   pub seen_put : (meta : Kept) (read : List ℕ) → read ≡ kept_memory → meta ≡ noted s.meta page held.shape (bytes_of read held)
-      → store_in s.codec kept_memory s.descriptors s.used meta s.counts s.stops ≡ record s {
+      → store_in s.codec kept_memory s.descriptors s.used meta s.counts s.stops s.cursor ≡ record s {
         lines = set s.lines (64 * page + line) from;
         bytes = set s.bytes page (bytes_of m' held);
         meta = noted s.meta page held.shape (bytes_of m' held);
@@ -292,7 +294,7 @@ module _ (s : Store) (memory : List ℕ) (sizes : List (List ℕ)) (kept : IsKep
       let lines = ap (with_page s.lines page) put_content ∙ line_with s.lines page line from line_in in
       let meta_is : meta ≡ noted s.meta page held.shape (bytes_of m' held) = notes ∙ ap (λ (x : List ℕ). noted s.meta page held.shape (bytes_of x held)) (read_is ∙ back) in
       rw (back, meta_is, held_is, ← lines)
-      (subst (λ (xs : List Desc). store_in s.codec m' xs s.used (noted s.meta page (shape_of (desc_at s.descriptors page)) (bytes_of m' (held_of (desc_at s.descriptors page)))) s.counts s.stops ≡ record s {
+      (subst (λ (xs : List Desc). store_in s.codec m' xs s.used (noted s.meta page (shape_of (desc_at s.descriptors page)) (bytes_of m' (held_of (desc_at s.descriptors page)))) s.counts s.stops s.cursor ≡ record s {
         lines = with_page s.lines page (content_of (shape_of (desc_at s.descriptors page)) (bytes_of m' (held_of (desc_at s.descriptors page))));
         descriptors = xs;
         bytes = set s.bytes page (bytes_of m' (held_of (desc_at s.descriptors page)));
@@ -301,7 +303,7 @@ module _ (s : Store) (memory : List ℕ) (sizes : List (List ℕ)) (kept : IsKep
 
   pub kept_put : (meta : Kept) (read : List ℕ) (own_sizes : List ℕ) → read ≡ kept_memory → meta ≡ noted s.meta page held.shape (bytes_of read held)
       → own_sizes ≡ kept_sizes s.codec (set (page_of s.lines page) line from)
-      → IsKept (store_in s.codec kept_memory s.descriptors s.used meta s.counts s.stops) kept_memory (set sizes page own_sizes)
+      → IsKept (store_in s.codec kept_memory s.descriptors s.used meta s.counts s.stops s.cursor) kept_memory (set sizes page own_sizes)
   kept_put meta read own_sizes read_is notes sized =
       let seen =
       change.seen_after s memory sizes kept page within (desc_at s.descriptors page) (bytes_of m' (held_of (desc_at s.descriptors page))) s.used s.counts s.stops
@@ -312,7 +314,7 @@ module _ (s : Store) (memory : List ℕ) (sizes : List (List ℕ)) (kept : IsKep
       let meta_is : meta ≡ noted s.meta page (shape_of (desc_at s.descriptors page)) (bytes_of m' (held_of (desc_at s.descriptors page))) =
       notes ∙ ap (λ (x : List ℕ). noted s.meta page held.shape (bytes_of x held)) (read_is ∙ back) ∙ ap (λ (h : Held). noted s.meta page h.shape (bytes_of m' h)) held_is in
       rw (back, meta_is)
-      (subst (λ (xs : List Desc). IsKept (store_in s.codec m' xs s.used (noted s.meta page (shape_of (desc_at s.descriptors page)) (bytes_of m' (held_of (desc_at s.descriptors page)))) s.counts s.stops) m' (set sizes page own_sizes))
+      (subst (λ (xs : List Desc). IsKept (store_in s.codec m' xs s.used (noted s.meta page (shape_of (desc_at s.descriptors page)) (bytes_of m' (held_of (desc_at s.descriptors page)))) s.counts s.stops s.cursor) m' (set sizes page own_sizes))
       desc_same (subst (λ (t : Store). IsKept t m' (set sizes page own_sizes)) (sym seen) made))
 
 -- the sizes of a page in which one line is another

@@ -135,15 +135,11 @@ lines_after pages bytes page held own within paged =
           ∙ ap (λ (b : List ℕ). line_of (held_at (set pages page held) q).shape b i) (sym (get_or-set_other bytes page q own [] ne))
     ])
 
--- the blocks of other pages after one was filled
-module _ (codec : Codec) (memory : List ℕ) (pages : List Held) (page : ℕ) (held : Held) (own memory' : List ℕ) (within : page < length pages)
-    (room : (q : ℕ) → q < length pages → IsWithin memory (held_at pages q)) (fills : Fills codec memory pages page held own memory') where
-  others_stay : (q : ℕ) → q < length pages → q ≢ page → bytes_of memory' (held_at pages q) ≡ bytes_of memory (held_at pages q)
-  others_stay q q_in ne =
-      part_stays (start_of held) (size_of held.shape) (start_of (held_at pages q)) (size_of (held_at pages q).shape) memory memory' fills.changes (room q q_in) (fills.apart q q_in ne)
-
-  pub bytes_after : all_bytes memory' (set pages page held) ≡ set (all_bytes memory pages) page own
-  bytes_after =
+-- the bytes of all blocks where those of one page became these, and those of every other page stay
+module _ (memory : List ℕ) (pages : List Held) (page : ℕ) (held : Held) (own memory' : List ℕ) (within : page < length pages) (there : bytes_of memory' held ≡ own)
+    (stay : (q : ℕ) → q < length pages → q ≢ page → bytes_of memory' (held_at pages q) ≡ bytes_of memory (held_at pages q)) where
+  pub bytes_with : all_bytes memory' (set pages page held) ≡ set (all_bytes memory pages) page own
+  bytes_with =
       let size : length (set pages page held) ≡ length pages = length-set pages page held in
       let long : length (all_bytes memory' (set pages page held)) ≡ length (set pages page held) = length-map (set pages page held) (bytes_of memory') in
       let olds : length (all_bytes memory pages) ≡ length pages = length-map pages (bytes_of memory) in
@@ -152,10 +148,17 @@ module _ (codec : Codec) (memory : List ℕ) (pages : List Held) (page : ℕ) (h
       (λ q d q_in. elim (cases_eq q page) [
         | inl e ↦
             let at : get_or (all_bytes memory' (set pages page held)) page d ≡ get_or (set (all_bytes memory pages) page own) page d =
-            get_or-map (bytes_of memory') (set pages page held) page zero_held d (omega arith) ∙ ap (bytes_of memory') (held_same pages page held within) ∙ fills.there
+            get_or-map (bytes_of memory') (set pages page held) page zero_held d (omega arith) ∙ ap (bytes_of memory') (held_same pages page held within) ∙ there
             ∙ sym (get_or-set_same (all_bytes memory pages) page own d (omega arith)) in
             subst (λ (p : ℕ). get_or (all_bytes memory' (set pages page held)) p d ≡ get_or (set (all_bytes memory pages) page own) p d) (sym e) at
         | inr ne ↦
-            get_or-map (bytes_of memory') (set pages page held) q zero_held d (omega arith) ∙ ap (bytes_of memory') (held_other pages page q held ne) ∙ others_stay q (omega arith) ne
+            get_or-map (bytes_of memory') (set pages page held) q zero_held d (omega arith) ∙ ap (bytes_of memory') (held_other pages page q held ne) ∙ stay q (omega arith) ne
             ∙ sym (get_or-map (bytes_of memory) pages q zero_held d (omega arith)) ∙ sym (get_or-set_other (all_bytes memory pages) page q own d ne)
       ])
+
+-- the blocks of other pages after one was filled
+module _ (codec : Codec) (memory : List ℕ) (pages : List Held) (page : ℕ) (held : Held) (own memory' : List ℕ) (within : page < length pages)
+    (room : (q : ℕ) → q < length pages → IsWithin memory (held_at pages q)) (fills : Fills codec memory pages page held own memory') where
+  pub others_stay : (q : ℕ) → q < length pages → q ≢ page → bytes_of memory' (held_at pages q) ≡ bytes_of memory (held_at pages q)
+  others_stay q q_in ne =
+      part_stays (start_of held) (size_of held.shape) (start_of (held_at pages q)) (size_of (held_at pages q).shape) memory memory' fills.changes (room q q_in) (fills.apart q q_in ne)

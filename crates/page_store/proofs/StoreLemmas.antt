@@ -26,10 +26,10 @@ use Rattle.page_slots.specs.declared.desc.Shape.TheVariants as shapes
 use Rattle.page_slots.specs.Descs.{content_of, line_of, shape_of, size_of}
 use Rattle.page_slots.specs.Sound.{IsSound as IsSoundPage}
 use Rattle.page_store.specs.declared.room.Held.{Held}
-use Rattle.page_store.specs.Lays.{noted}
+use Rattle.page_store.specs.Noted.{noted}
 use Rattle.page_store.specs.Rooms.{IsShaped, IsWithin, Fills, ShareNone, all_bytes, all_lines, bytes_at, bytes_of, held_at, held_of, helds, start_of}
 use Rattle.page_store.proofs.BlockRoomLemmas.{page_within, pages_share_none}
-use Rattle.page_store.proofs.RoomLemmas.{bytes_after, helds_at, helds_set, length-helds, lines_after}
+use Rattle.page_store.proofs.RoomLemmas.{bytes_with, helds_at, helds_set, length-helds, lines_after, others_stay}
 use Rattle.recency.specs.declared.entry.Entry.{Entry}
 use Rattle.recency.specs.Kept.{Kept, entry_of}
 
@@ -165,14 +165,52 @@ module _ (s : Store) (memory : List ℕ) (sizes : List (List ℕ)) (kept : IsKep
     says = says_after;
     copies = copies_after;
     distinct = noted_distinct s.meta page (shape_of desc) own kept.sound.distinct;
+    cursor_in = subst (λ n. s.cursor < n) (sym same_pages) kept.sound.cursor_in;
   }
+
+  long : length memory ≡ 4096 * length used
+  long = kept.in_memory ∙ ap (λ (n : ℕ). 4096 * n) (sym frames)
+
+  -- the memory in which the page's block has these bytes, and every other block those that it had
+  module _ (memory' : List ℕ) (same : length memory' ≡ length memory) (there : bytes_of memory' (held_of desc) ≡ own)
+      (stay : (q : ℕ) → q < length (helds s.descriptors) → q ≢ page → bytes_of memory' (held_at (helds s.descriptors) q) ≡ bytes_of memory (held_at (helds s.descriptors) q)) where
+    all_bytes_with : all_bytes memory' (helds (set s.descriptors page desc)) ≡ set s.bytes page own
+    all_bytes_with =
+        ap (all_bytes memory') (helds_set s.descriptors page desc)
+        ∙ bytes_with memory (helds s.descriptors) page (held_of desc) own memory' (omega (arith, length-helds s.descriptors)) there stay
+        ∙ ap (λ (bs : List (List ℕ)). set bs page own) (sym kept.stands)
+
+    -- what is seen of it
+    pub seen_with : store_in s.codec memory' (set s.descriptors page desc) used (noted s.meta page (shape_of desc) own) counts stops s.cursor ≡ after
+    seen_with =
+        let bytes : all_bytes memory' (helds (set s.descriptors page desc)) ≡ set s.bytes page own = all_bytes_with in
+        let lines : all_lines (helds (set s.descriptors page desc)) (all_bytes memory' (helds (set s.descriptors page desc))) ≡ with_page s.lines page (content_of (shape_of desc) own) =
+        ap (all_lines (helds (set s.descriptors page desc))) bytes ∙ sym says_after in
+        rw (lines, bytes) refl
+
+    pub kept_with : (own_sizes : List ℕ) → own_sizes ≡ kept_sizes s.codec (content_of (shape_of desc) own) → IsKept after memory' (set sizes page own_sizes)
+    kept_with own_sizes sized =
+        let counted : length sizes ≡ length s.descriptors = kept.counted in
+        record {
+          sound = sound_after;
+          stands = sym all_bytes_with;
+          in_memory = same ∙ long;
+          counted = length-set sizes page own_sizes ∙ counted ∙ sym same_pages;
+          sized = λ q lt. elim (cases_eq q page) [
+            | inl same ↦
+                let here : page_of (with_page s.lines page (content_of (shape_of desc) own)) page ≡ content_of (shape_of desc) own = page_of-with s.lines page (content_of (shape_of desc) own) inside whole in
+                let there : slice_get (set sizes page own_sizes) page ≡ Some (kept_sizes s.codec (page_of (with_page s.lines page (content_of (shape_of desc) own)) page)) =
+                get-set_same sizes page own_sizes (omega arith) ∙ ap Some (sized ∙ ap (kept_sizes s.codec) (sym here)) in
+                subst (λ (r : ℕ). slice_get (set sizes page own_sizes) r ≡ Some (kept_sizes s.codec (page_of (with_page s.lines page (content_of (shape_of desc) own)) r))) (sym same) there
+            | inr ne ↦
+                let before_lt : q < length sizes = omega (arith, length-set sizes page own_sizes) in
+                get-set_other sizes page q own_sizes ne ∙ kept.sized q before_lt ∙ ap (λ l. Some (kept_sizes s.codec l)) (sym (new_lines.others q ne))
+          ];
+        }
 
   -- the memory in which the page's block was filled
   module _ (memory' : List ℕ) (changes : ChangesWithin (start_of (held_of desc)) (size_of (shape_of desc)) memory memory') (there : bytes_of memory' (held_of desc) ≡ own) where
-    long : length memory ≡ 4096 * length used
-    long = kept.in_memory ∙ ap (λ (n : ℕ). 4096 * n) (sym frames)
-
-    pub fills : Fills s.codec memory (helds s.descriptors) page (held_of desc) own memory'
+    fills : Fills s.codec memory (helds s.descriptors) page (held_of desc) own memory'
     fills =
         let at = same_pages in
         record {
@@ -186,40 +224,16 @@ module _ (s : Store) (memory : List ℕ) (sizes : List (List ℕ)) (kept : IsKep
           there = there;
         }
 
-    all_bytes_after : all_bytes memory' (helds (set s.descriptors page desc)) ≡ set s.bytes page own
-    all_bytes_after =
-        ap (all_bytes memory') (helds_set s.descriptors page desc)
-        ∙ bytes_after s.codec memory (helds s.descriptors) page (held_of desc) own memory' (omega (arith, length-helds s.descriptors))
+    stay : (q : ℕ) → q < length (helds s.descriptors) → q ≢ page → bytes_of memory' (held_at (helds s.descriptors) q) ≡ bytes_of memory (held_at (helds s.descriptors) q)
+    stay =
+        others_stay s.codec memory (helds s.descriptors) page (held_of desc) own memory' (omega (arith, length-helds s.descriptors))
         (λ q q_in. page_within s.descriptors s.used memory kept.sound.blocks_are kept.sound.shaped kept.in_memory q (omega (arith, length-helds s.descriptors))) fills
-        ∙ ap (λ (bs : List (List ℕ)). set bs page own) (sym kept.stands)
 
-    -- what is seen of it
-    pub seen_after : store_in s.codec memory' (set s.descriptors page desc) used (noted s.meta page (shape_of desc) own) counts stops ≡ after
-    seen_after =
-        let bytes : all_bytes memory' (helds (set s.descriptors page desc)) ≡ set s.bytes page own = all_bytes_after in
-        let lines : all_lines (helds (set s.descriptors page desc)) (all_bytes memory' (helds (set s.descriptors page desc))) ≡ with_page s.lines page (content_of (shape_of desc) own) =
-        ap (all_lines (helds (set s.descriptors page desc))) bytes ∙ sym says_after in
-        rw (lines, bytes) refl
+    pub seen_after : store_in s.codec memory' (set s.descriptors page desc) used (noted s.meta page (shape_of desc) own) counts stops s.cursor ≡ after
+    seen_after = seen_with memory' changes.same_length there stay
 
     pub kept_after : (own_sizes : List ℕ) → own_sizes ≡ kept_sizes s.codec (content_of (shape_of desc) own) → IsKept after memory' (set sizes page own_sizes)
-    kept_after own_sizes sized =
-        let counted : length sizes ≡ length s.descriptors = kept.counted in
-        record {
-          sound = sound_after;
-          stands = sym all_bytes_after;
-          in_memory = changes.same_length ∙ long;
-          counted = length-set sizes page own_sizes ∙ counted ∙ sym same_pages;
-          sized = λ q lt. elim (cases_eq q page) [
-            | inl same ↦
-                let here : page_of (with_page s.lines page (content_of (shape_of desc) own)) page ≡ content_of (shape_of desc) own = page_of-with s.lines page (content_of (shape_of desc) own) inside whole in
-                let there : slice_get (set sizes page own_sizes) page ≡ Some (kept_sizes s.codec (page_of (with_page s.lines page (content_of (shape_of desc) own)) page)) =
-                get-set_same sizes page own_sizes (omega arith) ∙ ap Some (sized ∙ ap (kept_sizes s.codec) (sym here)) in
-                subst (λ (r : ℕ). slice_get (set sizes page own_sizes) r ≡ Some (kept_sizes s.codec (page_of (with_page s.lines page (content_of (shape_of desc) own)) r))) (sym same) there
-            | inr ne ↦
-                let before_lt : q < length sizes = omega (arith, length-set sizes page own_sizes) in
-                get-set_other sizes page q own_sizes ne ∙ kept.sized q before_lt ∙ ap (λ l. Some (kept_sizes s.codec l)) (sym (new_lines.others q ne))
-          ];
-        }
+    kept_after own_sizes sized = kept_with memory' changes.same_length there stay own_sizes sized
 
 -- a page of the memory at its start
 pub zero_page : (n page : ℕ) → page < n → page_of (replicate (64 * n) zero_line) page ≡ replicate 64 zero_line

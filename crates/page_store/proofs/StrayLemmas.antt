@@ -2,7 +2,7 @@
 use Rattle.std.proofs.Common.{[], ◌≡◌, ◌≢◌, ◌<◌, ◌≤◌, ◌+◌, ◌*◌, ◌∙◌, ℕ, Bool, true, false, Some, List, cond, get_or-set_same, length, refl, replicate, set, slice_get, sym, ap, subst, inl, inr, arith}
 use Rattle.std.proofs.lemmas.Bool.{cases_eq, ne_eqb, eq-eqb}
 use Rattle.std.proofs.lemmas.List.{get_or-replicate, length-replicate, length-set}
-use Rattle.std.proofs.lemmas.Option.{get_or_from_slice_get, slice_get_within}
+use Rattle.std.proofs.lemmas.Option.{get_or_from_slice_get, slice_get-get_or, slice_get_within}
 use Rattle.hier_types.specs.Lines.{zero_line}
 use Rattle.hier_types.specs.declared.counts.PageCounts.{PageCounts}
 use Rattle.hier_types.specs.declared.settings.Codec.{Codec}
@@ -40,8 +40,12 @@ module _ (codec : Codec) (memory : List ℕ) (pages : ℕ) (used : List ℕ) (wa
       subst (IsAtPlan (plan_of codec (page_of (replicate (64 * pages) zero_line) page))) is
       (subst (λ (ls : List (List ℕ)). IsAtPlan (plan_of codec ls) descs.Zero) (sym (zero_page pages page within)) zeros_at_plan)
 
-  pub strays_fresh : AreStrays (store_in codec memory (replicate pages descs.Zero) used (record { ways = ways; lines = [] }) counts 0) strays
+  pub strays_fresh : AreStrays (store_in codec memory (replicate pages descs.Zero) used (record { ways = ways; lines = [] }) counts 0 0) strays
   strays_fresh = subst (λ (t : Store). AreStrays t strays) (sym (fresh_seen codec memory pages used ways counts)) start_strays
+
+-- a page that is no stray is at its plan
+pub no_stray : (s : Store) (strays : List ℕ) (page : ℕ) → AreStrays s strays → page < length s.descriptors → has strays page ≡ 0 → IsAtPlan (plan_at s page) (desc_at s.descriptors page)
+no_stray s strays page are within lacks = are page (desc_at s.descriptors page) (slice_get-get_or s.descriptors page descs.Zero within) lacks
 
 -- One page was put among the strays or taken out, and no other page changed.
 strays_but : (s t : Store) (strays strays' : List ℕ) (page : ℕ) (on : Bool) → length t.descriptors ≤ 65536 → AreStrays s strays → Puts strays page on strays' → t.codec ≡ s.codec

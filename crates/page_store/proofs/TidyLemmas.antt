@@ -1,31 +1,19 @@
 -- Pages that are brought to their plans.
-use Rattle.std.proofs.Common.{◌≡◌, ◌≢◌, ◌<◌, ◌≤◌, ◌+◌, ◌*◌, ◌/◌, ◌%◌, ◌∙◌, ◌==◌, ℕ, Bool, zero, suc, true, false, true≢false, Option, Some, Result, Ok, Err, List, length, slice_get, refl, sym, ap, subst, inl, inr, arith, add-one}
+use Rattle.std.proofs.Common.{◌≡◌, ◌≢◌, ◌<◌, ◌≤◌, ◌+◌, ◌*◌, ◌/◌, ◌%◌, ◌∙◌, ◌==◌, ℕ, Bool, zero, suc, true, false, true≢false, Some, Result, Ok, Err, List, length, slice_get, refl, sym, ap, subst, inl, inr, arith, add-one}
 use Rattle.std.specs.Bool.{MatchBool}
 use Rattle.std.specs.Prelude.{IfErr, OnErr, OnOk, is_ok}
-use Rattle.std.specs.Result.{IsOk}
-use Rattle.std.proofs.lemmas.Bool.{cases_eq, cases_lt}
+use Rattle.std.proofs.lemmas.Bool.{cases_eq}
 use Rattle.std.proofs.lemmas.Bool.Decides.{nat_tests}
-use Rattle.std.proofs.lemmas.List.{get_or-set_same, get_or-set_other, length-set}
-use Rattle.std.proofs.lemmas.Option.{none-some, same_Some, slice_get_within, get_or_from_slice_get}
-use Rattle.hier_types.specs.Lines.{zero_line}
+use Rattle.std.proofs.lemmas.List.{get_or-set_other, length-set}
+use Rattle.std.proofs.lemmas.Option.{slice_get_within, get_or_from_slice_get}
 use Rattle.hier_types.specs.declared.settings.Codec.{Codec}
-use Rattle.hier_types.proofs.TableLemmas.{length-tabulate, get_or-tabulate}
-use Rattle.buddy_frames.specs.Units.{Place}
-use Rattle.line_codec.specs.Layout.{IsTarget, cap, stored_sizes, chunks_of}
 use Rattle.page_plan.specs.declared.least.PagePlan.{PagePlan}
-use Rattle.page_plan.specs.declared.least.PagePlan.TheVariants as plan
-use Rattle.page_plan.specs.Layout.{IsOrderFor}
-use Rattle.page_plan.specs.PagePlan.{IsPlan, plan_of}
-use Rattle.page_plan.specs.Pages.{page_of, with_page}
-use Rattle.page_plan.proofs.PageLemmas.{three_parts}
-use Rattle.page_plan.specs.Sizes.{order_of}
-use Rattle.page_plan.proofs.PlanLemmas.{IsPlan-plan_of, only_plan}
+use Rattle.page_plan.specs.PagePlan.{plan_of}
+use Rattle.page_plan.specs.Pages.{page_of}
+use Rattle.page_plan.proofs.PlanLemmas.{IsPlan-plan_of}
 use Rattle.page_slots.specs.declared.desc.Desc.{Desc}
 use Rattle.page_slots.specs.declared.desc.Desc.TheVariants as descs
-use Rattle.page_slots.specs.declared.desc.Slots.TheVariants.{Packed, Mid}
-use Rattle.page_slots.specs.Descs.{block_of, content_of, shape_of}
-use Rattle.page_slots.specs.Sound.{IsSound as IsSoundPage}
-use Rattle.page_slots.proofs.CountLemmas.{slotted_room}
+use Rattle.page_slots.specs.Descs.{shape_of}
 use Rattle.hier_types.specs.Causes.{Refuses, raised}
 use Rattle.hier_types.proofs.CauseLemmas.{later_raised}
 use Rattle.hier_types.specs.declared.counts.PageCounts.{PageCounts}
@@ -34,105 +22,26 @@ use Rattle.hier_types.specs.Calls.{Answer}
 use Rattle.page_store.specs.Calls.{GoesIn, Outline, Refused, StoreWrite, looked_up}
 use Rattle.page_store.specs.Crowds.{Crowded, Tight}
 use Rattle.page_store.specs.Lays.{BringsToPlan, KeepsLines, Lays, OthersAreAtPlan, TidiedUpTo, TidiesOthers, TidyStep, plan_at}
-use Rattle.page_store.specs.PageBlocks.{IsAtPlan, LacksRoom, Outgrows}
-use Rattle.page_store.specs.Rooms.{IsShaped, bytes_of, held_of}
-use Rattle.page_store.specs.Store.{HasZero, IsKept, IsSound, Sizing, Store, desc_at, sizing_of}
+use Rattle.page_mover.specs.declared.turning.Turn.{Turn}
+use Rattle.page_mover.specs.declared.turning.Turn.TheVariants.{Next}
+use Rattle.page_store.specs.Turns.{MakesTurnOn, TidyTurn, TidyTurns, TurnsPage, turn_at, tidied_more as counted_more}
+use Rattle.page_store.specs.PageBlocks.{IsAtPlan, LacksRoom}
+use Rattle.page_store.specs.Store.{IsSound, Sizing, Store, desc_at, sizing_of}
 use Rattle.page_store.proofs.CallLemmas.{looked_like}
-use Rattle.page_store.proofs.BlockRoomLemmas.{block_there}
 use Rattle.page_store.proofs.CrowdLemmas.{crowded_tight, small_order, tight_few}
 use Rattle.page_store.proofs.ListLemmas.{get-set_other}
-use Rattle.page_store.proofs.PagesLemmas.{own_lines, own_sound}
 use Rattle.page_store.proofs.StoreLemmas.{noted_ways}
-
--- an order that has room is not below the least one
-order_below : (n k : ℕ) → k ≤ 2 → n ≤ cap k → (j : ℕ) × IsOrderFor n j × (j ≤ k)
-order_below n k k_in room = elim (cases_lt 8 n) [
-  | inr small ↦ (0, record { known = omega arith; room = small; least = λ i a b. omega arith }, omega arith)
-  | inl more ↦ elim (cases_lt 16 n) [
-    | inr half ↦ (1, record { known = omega arith; room = half; least = λ i a b. grind (arith, nat_tests) }, grind (arith, nat_tests))
-    | inl large ↦ (2, record { known = omega arith; room = grind (arith, nat_tests); least = λ i a b. grind (arith, nat_tests) }, grind (arith, nat_tests))
-  ]
-]
-
--- the plan of lines that fit a block of an order with some target asks for no larger one
-plan_below : (codec : Codec) (lines : List (List ℕ)) (k t : ℕ) (p : PagePlan) (order : ℕ) → k ≤ 2 → IsTarget t → chunks_of (stored_sizes codec lines) t ≤ cap k → IsPlan codec lines p
-    → order_of p ≡ Some order → order ≤ k
-plan_below codec lines k t plan.Zero order k_in is_target room is asks = absurd (none-some order asks)
-plan_below codec lines k t (plan.Packed o target exceptions) order k_in is_target room is asks =
-    let found = order_below (chunks_of (stored_sizes codec lines) t) k k_in room in
-    let least = is.1.least found.0 t is_target found.1 in
-    let same : o ≡ order = same_Some o order asks in
-    elim least [ inl less ↦ omega (arith, found.2) | inr equal ↦ omega (arith, equal.0, found.2) ]
-plan_below codec lines k t plan.Raw order k_in is_target room is asks =
-    let found = order_below (chunks_of (stored_sizes codec lines) t) k k_in room in
-    absurd (is.1 found.0 t is_target found.1)
-
--- a page of zeros is at its plan
-zero_at_plan : (codec : Codec) (own : List ℕ) → IsAtPlan (plan_of codec (content_of (shape_of descs.Zero) own)) descs.Zero
-zero_at_plan codec own =
-    let zeros : plan.Zero ≡ plan_of codec (content_of (shape_of descs.Zero) own) = only_plan codec (content_of (shape_of descs.Zero) own) plan.Zero
-    (λ k d lt. get_or-tabulate d (λ i. zero_line) 64 k (omega (arith, length-tabulate (λ (i : ℕ). zero_line) 64))) in
-    subst (λ (p : PagePlan). IsAtPlan p descs.Zero) zeros tt
-
--- a page in its block always has room for its plan
-has_room : (codec : Codec) (d : Desc) (own : List ℕ) (order : ℕ) → IsShaped d → IsSoundPage codec (shape_of d) own → (IsAtPlan (plan_of codec (content_of (shape_of d) own)) d → ⊥)
-    → order_of (plan_of codec (content_of (shape_of d) own)) ≡ Some order → Outgrows (block_of d) order → ⊥
-has_room codec descs.Zero own order shaped sound off asks outgrown = off (zero_at_plan codec own)
-has_room codec (descs.Raw block) own order shaped sound off asks outgrown =
-    let lines = content_of (shape_of (descs.Raw block)) own in
-    omega (arith, shaped, outgrown, small_order codec lines (plan_of codec lines) order (IsPlan-plan_of codec lines) asks)
-has_room codec (descs.Packed block target) own order shaped sound off asks outgrown =
-    let lines = content_of (shape_of (descs.Packed block target)) own in
-    omega (arith, outgrown, plan_below codec lines block.order target (plan_of codec lines) order shaped sound.holds.targets (slotted_room codec (Packed block.order target) own sound) (IsPlan-plan_of codec lines) asks)
-has_room codec (descs.Mid block small large at) own order shaped sound off asks outgrown =
-    let lines = content_of (shape_of (descs.Mid block small large at)) own in
-    omega (arith, outgrown, plan_below codec lines block.order large (plan_of codec lines) order shaped sound.holds.targets.1.0 (slotted_room codec (Mid block.order small large at) own sound) (IsPlan-plan_of codec lines) asks)
-
--- one page of a store as it is kept
-module _ (s : Store) (memory : List ℕ) (sizes : List (List ℕ)) (kept : IsKept s memory sizes) (page : ℕ) (within : page < length s.descriptors) where
-  lines_are : page_of s.lines page ≡ content_of (shape_of (desc_at s.descriptors page)) (bytes_of memory (held_of (desc_at s.descriptors page)))
-  lines_are = own_lines s memory sizes kept page within
-
-  pub never_refused : (order : ℕ) → (IsAtPlan (plan_at s page) (desc_at s.descriptors page) → ⊥) → LacksRoom s.descriptors s.used page (plan_at s page) order → ⊥
-  never_refused order off lacks =
-      has_room s.codec (desc_at s.descriptors page) (bytes_of memory (held_of (desc_at s.descriptors page))) order (kept.sound.shaped page within) (own_sound s memory sizes kept page within)
-      (λ at. off (subst (λ (ls : List (List ℕ)). IsAtPlan (plan_of s.codec ls) (desc_at s.descriptors page)) (sym lines_are) at))
-      (ap (λ (ls : List (List ℕ)). order_of (plan_of s.codec ls)) (sym lines_are) ∙ lacks.order_is)
-      (subst (λ (o : Option Place). Outgrows o order) (block_there s.descriptors page within) lacks.outgrown)
-
-  -- a page that is off its plan is not zero
-  pub off_not_zero : (IsAtPlan (plan_at s page) (desc_at s.descriptors page) → ⊥) → HasZero s page → ⊥
-  off_not_zero off is_zero =
-      let is : desc_at s.descriptors page ≡ descs.Zero = get_or_from_slice_get s.descriptors page descs.Zero descs.Zero is_zero in
-      let own = bytes_of memory (held_of (desc_at s.descriptors page)) in
-      off (subst (λ (ls : List (List ℕ)). IsAtPlan (plan_of s.codec ls) (desc_at s.descriptors page)) (sym lines_are)
-      (subst (λ (d : Desc). IsAtPlan (plan_of s.codec (content_of (shape_of d) own)) d) (sym is) (zero_at_plan s.codec own)))
-
-  -- what a page that is laid with its own lines keeps
-  pub laid_keeps : (t : Store) → (IsAtPlan (plan_at s page) (desc_at s.descriptors page) → ⊥) → Lays s page s.lines t → length t.used ≡ length s.used → KeepsLines s t
-  laid_keeps t off lays frames = record {
-    lines_are = ap (λ (x : Store). x.lines) lays.is;
-    codec_is = ap (λ (x : Store). x.codec) lays.is;
-    counts_are = ap (λ (x : Store). x.counts) lays.is;
-    stops_are = ap (λ (x : Store). x.stops) lays.is;
-    ways_stay = ap (λ (x : Store). x.meta.ways) lays.is ∙ noted_ways s.meta page (shape_of lays.comes.desc) _;
-    frames_stay = frames;
-    pages_stay = ap length lays.comes.descriptors_are ∙ length-set s.descriptors page lays.comes.desc;
-    zeros_stay = λ q is_zero. elim (cases_eq q page) [
-      | inl same ↦ absurd (off_not_zero off (subst (HasZero s) same is_zero))
-      | inr ne ↦ ap (λ (xs : List Desc). slice_get xs q) lays.comes.descriptors_are ∙ get-set_other s.descriptors page q lays.comes.desc ne ∙ is_zero
-    ];
-  }
 
 -- nothing changed
 pub same_keeps : (s : Store) → KeepsLines s s
-same_keeps s = record { lines_are = refl; codec_is = refl; counts_are = refl; stops_are = refl; ways_stay = refl; frames_stay = refl; pages_stay = refl; zeros_stay = λ page is_zero. is_zero }
+same_keeps s = record { lines_are = refl; codec_is = refl; counts_are = refl; cursor_is = refl; stops_are = refl; ways_stay = refl; frames_stay = refl; pages_stay = refl; zeros_stay = λ page is_zero. is_zero }
 
 pub keeps_then : (s t u : Store) → KeepsLines s t → KeepsLines t u → KeepsLines s u
 keeps_then s t u first second = record {
   lines_are = second.lines_are ∙ first.lines_are;
   codec_is = second.codec_is ∙ first.codec_is;
-  counts_are = second.counts_are ∙ first.counts_are;
+  counts_are = second.counts_are ∙ ap (λ (k : PageCounts). record k { tidy_turns = u.counts.tidy_turns }) first.counts_are;
+  cursor_is = second.cursor_is ∙ first.cursor_is;
   stops_are = second.stops_are ∙ first.stops_are;
   ways_stay = second.ways_stay ∙ first.ways_stay;
   frames_stay = second.frames_stay ∙ first.frames_stay;
@@ -140,19 +49,46 @@ keeps_then s t u first second = record {
   zeros_stay = λ page is_zero. second.zeros_stay page (first.zeros_stay page is_zero);
 }
 
--- the page that was brought to its plan is there
-pub brought : (s : Store) (page : ℕ) (t : Store) → page < length s.descriptors → BringsToPlan s page t → IsAtPlan (plan_at s page) (desc_at t.descriptors page)
-brought s page t within (inl at) = subst (λ (x : Store). IsAtPlan (plan_at s page) (desc_at x.descriptors page)) (sym at.1) at.0
-brought s page t within (inr lays) =
-    let is : desc_at t.descriptors page ≡ lays.1.comes.desc =
-    ap (λ (xs : List Desc). desc_at xs page) lays.1.comes.descriptors_are ∙ get_or-set_same s.descriptors page lays.1.comes.desc descs.Zero within in
-    subst (IsAtPlan (plan_at s page)) (sym is) lays.1.comes.at_plan
+-- one more turn was counted
+pub counted_keeps : (s : Store) → KeepsLines s (record s { counts = counted_more s.counts })
+counted_keeps s = record { lines_are = refl; codec_is = refl; counts_are = refl; cursor_is = refl; stops_are = refl; ways_stay = refl; frames_stay = refl; pages_stay = refl; zeros_stay = λ page is_zero. is_zero }
 
--- and every other stays as it is
+-- every page but the one that was turned stays as it is
+turned_others : (s : Store) (page : ℕ) (t : Store) (q : ℕ) → q ≢ page → TidyTurn s page t → desc_at t.descriptors q ≡ desc_at s.descriptors q
+turned_others s page t q ne turned =
+    ap (λ (x : Store). desc_at x.descriptors q) turned.is ∙ ap (λ (xs : List Desc). desc_at xs q) turned.makes.comes.descriptors_are
+    ∙ get_or-set_other s.descriptors page q turned.makes.comes.desc descs.Zero ne
+
+turns_others : (s : Store) (page n : ℕ) (t : Store) (q : ℕ) → q ≢ page → TidyTurns s page n t → desc_at t.descriptors q ≡ desc_at s.descriptors q
+unfolding TidyTurns
+turns_others s page zero t q ne is = ap (λ (x : Store). desc_at x.descriptors q) is
+turns_others s page (suc n) t q ne (m, before, turned) = turned_others m page t q ne turned ∙ turns_others s page n m q ne before
+
+-- and so where it is brought to its plan
 pub others_stay : (s : Store) (page : ℕ) (t : Store) (q : ℕ) → q ≢ page → BringsToPlan s page t → desc_at t.descriptors q ≡ desc_at s.descriptors q
-others_stay s page t q ne (inl at) = ap (λ (x : Store). desc_at x.descriptors q) at.1
-others_stay s page t q ne (inr lays) =
-    ap (λ (xs : List Desc). desc_at xs q) lays.1.comes.descriptors_are ∙ get_or-set_other s.descriptors page q lays.1.comes.desc descs.Zero ne
+others_stay s page t q ne brings = turns_others s page brings.count t q ne brings.turns
+
+-- no turn yet, and one turn more
+pub turns_none : (s : Store) (page : ℕ) → TidyTurns s page 0 s
+unfolding TidyTurns
+turns_none s page = refl
+
+pub turns_more : (s : Store) (page n : ℕ) (m t : Store) → TidyTurns s page n m → TidyTurn m page t → TidyTurns s page (suc n) t
+unfolding TidyTurns
+turns_more s page n m t before turned = (m, before, turned)
+
+-- what was called was a turn, or nothing
+pub made_of : (s : Store) (page : ℕ) (turn : Turn) (t : Store) → turn ≢ Next → TurnsPage s page turn t → MakesTurnOn s page turn t
+made_of s page turn t off (inl stays) = absurd (off stays.0)
+made_of s page turn t off (inr made) = made.1
+
+pub stays_of : (s : Store) (page : ℕ) (turn : Turn) (t : Store) → turn ≡ Next → TurnsPage s page turn t → t ≡ s
+stays_of s page turn t next (inl stays) = stays.1.1
+stays_of s page turn t next (inr made) = absurd (made.0 next)
+
+pub next_of : (s : Store) (page : ℕ) (turn : Turn) (t : Store) → turn ≡ Next → TurnsPage s page turn t → turn_at s page ≡ Next
+next_of s page turn t next (inl stays) = stays.1.0
+next_of s page turn t next (inr made) = absurd (made.0 next)
 
 -- no page yet, and one page more
 pub tidied_none : (s : Store) (but : ℕ) → TidiedUpTo s but 0 s
@@ -171,29 +107,18 @@ pub tidied_but : (s : Store) (but n : ℕ) (m : Store) → n ≡ but → TidiedU
 tidied_but s but n m is before = tidied_more s but n m m before (let test : (n == but) ≡ true = grind (arith, nat_tests) in rw test refl)
 
 -- what was kept of the plans
-plan_kept : (s t : Store) (q : ℕ) → KeepsLines s t → plan_at t q ≡ plan_at s q
+pub plan_kept : (s t : Store) (q : ℕ) → KeepsLines s t → plan_at t q ≡ plan_at s q
 plan_kept s t q keeps = ap (λ (k : Codec). plan_of k (page_of t.lines q)) keeps.codec_is ∙ ap (λ (ls : List (List ℕ)). plan_of s.codec (page_of ls q)) keeps.lines_are
 
 -- the pages below a number are at their plans, and one more is brought there
-pub at_plan_page : (s : Store) (but n : ℕ) (m t : Store) → n < length m.descriptors → KeepsLines s m → ((q : ℕ) → q < n → q ≢ but → IsAtPlan (plan_at s q) (desc_at m.descriptors q))
+pub at_plan_page : (s : Store) (but n : ℕ) (m t : Store) → KeepsLines s m → ((q : ℕ) → q < n → q ≢ but → IsAtPlan (plan_at s q) (desc_at m.descriptors q))
     → BringsToPlan m n t → (q : ℕ) → q < n + 1 → q ≢ but → IsAtPlan (plan_at s q) (desc_at t.descriptors q)
-at_plan_page s but n m t within keeps before brings q lt ne = elim (cases_eq q n) [
-  | inl same ↦ subst (λ (k : ℕ). IsAtPlan (plan_at s k) (desc_at t.descriptors k)) (sym same) (subst (λ (p : PagePlan). IsAtPlan p (desc_at t.descriptors n)) (plan_kept s m n keeps) (brought m n t within brings))
+at_plan_page s but n m t keeps before brings q lt ne = elim (cases_eq q n) [
+  | inl same ↦ subst (λ (k : ℕ). IsAtPlan (plan_at s k) (desc_at t.descriptors k)) (sym same) (subst (λ (p : PagePlan). IsAtPlan p (desc_at t.descriptors n)) (plan_kept s m n keeps) brings.at_plan)
   | inr other ↦ subst (IsAtPlan (plan_at s q)) (sym (others_stay m n t q other brings)) (before q (omega arith) ne)
 ]
 
--- a page with its own lines in place of these is as it was
-pub own_page : (lines : List (List ℕ)) (page : ℕ) → with_page lines page (page_of lines page) ≡ lines
-own_page lines page = three_parts lines (64 * page) 64
-
--- a call that can't fail was answered
-pub is_ok_of : (result : Result (Unit {0}) ℕ) (Fails : ℕ → Type 0) → IfErr result Fails → ((order : ℕ) → Fails order → ⊥) → IsOk result
-is_ok_of (Ok u) Fails errs never = refl
-is_ok_of (Err order) Fails errs never = absurd (never order errs)
-
-pub of_ok : (result : Result (Unit {0}) ℕ) (P : Type 0) (u : Unit {0}) → result ≡ Ok u → OnOk result P → P
-of_ok result P u is done = rw is at done
-
+-- a call that was answered, and one that failed
 pub on_ok_of : (result : Result (Unit {0}) ℕ) (P : Type 0) → is_ok result ≡ true → OnOk result P → P
 on_ok_of (Ok u) P ok done = done
 on_ok_of (Err order) P ok done = absurd (true≢false (sym ok))
@@ -259,18 +184,20 @@ refused_of s mid page lines order refusal t within sound keeps others tidied fir
     })
 
 -- a page that is tidied changes no count of refusals
+turns_stops : (m : Store) (page n : ℕ) (t : Store) → TidyTurns m page n t → t.stops ≡ m.stops
+unfolding TidyTurns
+turns_stops m page zero t is = ap (λ (x : Store). x.stops) is
+turns_stops m page (suc n) t (l, before, turned) =
+    ap (λ (x : Store). x.stops) turned.is ∙ ap (λ (x : Store). x.stops) turned.makes.is ∙ turns_stops m page n l before
+
 tidied_stops : (s : Store) (but n : ℕ) (t : Store) → TidiedUpTo s but n t → t.stops ≡ s.stops
 unfolding TidiedUpTo
 tidied_stops s but zero t is = ap (λ (x : Store). x.stops) is
 tidied_stops s but (suc n) t (m, before, step) = step_stops (n == but) m n t step ∙ tidied_stops s but n m before
   where
-    brings_stops : (m : Store) (page : ℕ) (t : Store) → BringsToPlan m page t → t.stops ≡ m.stops
-    brings_stops m page t (inl at) = ap (λ (x : Store). x.stops) at.1
-    brings_stops m page t (inr lays) = ap (λ (x : Store). x.stops) lays.1.is
-
     step_stops : (test : Bool) (m : Store) (page : ℕ) (t : Store) → MatchBool test (t ≡ m) (BringsToPlan m page t) → t.stops ≡ m.stops
     step_stops true m page t is = ap (λ (x : Store). x.stops) is
-    step_stops false m page t brings = brings_stops m page t brings
+    step_stops false m page t brings = turns_stops m page brings.count t brings.turns
 
 -- nor does a page that goes in
 goes_stops : (s : Store) (page i : ℕ) (bytes : List ℕ) (t : Store) → GoesIn s page i bytes t → t.stops ≡ s.stops

@@ -22,7 +22,7 @@ use Rattle.page_slots.specs.Descs.{shape_of}
 use Rattle.page_slots.specs.Sound.{IsSound as IsSoundPage}
 use Rattle.page_store.specs.Rooms.{HasTarget}
 use Rattle.page_store.specs.PageBlocks.{IsAtPlan}
-use Rattle.page_store.specs.Rows.{row_at, row_of_shape, totals_at}
+use Rattle.page_store.specs.Rows.{row_at, row_of_shape, totals_at, totals_in}
 use Rattle.page_store.specs.Store.{AreAtPlan, IsSound, Store, desc_at, shape_at}
 use Rattle.page_store.proofs.BlockRoomLemmas.{desc_there}
 use Rattle.page_store.proofs.RoomLemmas.{helds_at}
@@ -84,7 +84,7 @@ lies_at_plan codec lines plan.Raw (descs.Raw block) is at = refl
 
 -- where each page is at its plan, the lines alone tell the totals
 pub totals_planned : (s : Store) → IsSound s → AreAtPlan s → totals_at s ≡ sizes_of_memory s.codec s.lines
-unfolding totals_at sizes_of_memory
+unfolding totals_in sizes_of_memory
 totals_planned s sound planned =
     let many : length s.lines / 64 ≡ length s.descriptors = omega (arith, sound.whole) in
     let left = length-tabulate (row_at s) (length s.descriptors) in

@@ -14,7 +14,8 @@ use Rattle.page_slots.specs.Puts.{GoesRight, Overflows}
 use Rattle.page_store.specs.PageBlocks.{block_at, Outgrows, LacksRoom}
 use Rattle.page_store.specs.Rooms.{bytes_at}
 use Rattle.page_store.specs.Store.{AreAtPlan, HasZero, Store, shape_at, sizing_of}
-use Rattle.page_store.specs.Lays.{GoesAnew, TidiesOthers, noted}
+use Rattle.page_store.specs.Lays.{GoesAnew, TidiesOthers}
+use Rattle.page_store.specs.Noted.{noted}
 use Rattle.page_store.specs.Crowds.{Crowded, MayRefuse}
 use Rattle.recency.specs.Kept.{entry_of}
 
@@ -134,8 +135,8 @@ abbrev pub PlacesPage : Store → ℕ → List ℕ → Answer → Store → Type
 PlacesPage s page bytes (Ok u) t = Places s page (with_page s.lines page (lines_of_page bytes)) t
 PlacesPage s page bytes (Err refusal) t = Refused s s page (with_page s.lines page (lines_of_page bytes)) (Unit {0}) refusal t
 
--- Every page comes to its plan, in rising order, which changes no line, counts as no call and is never refused. Where each
--- is there already, nothing changes.
+-- Every page comes to its plan by turns, in rising order, which changes no line and is never refused. Nothing is counted but
+-- these turns, and the mover stays where it is. Where each page is at its plan already, nothing changes.
 pub record Tidies (s t : Store) : Type 0 where
   pub lines_are : t.lines ≡ s.lines
   pub reads_are : t.counts.reads ≡ s.counts.reads
@@ -144,5 +145,6 @@ pub record Tidies (s t : Store) : Type 0 where
   pub sizing_is : sizing_of t ≡ sizing_of s
   pub pages_stay : length t.descriptors ≡ length s.descriptors
   pub stops_stay : t.stops ≡ s.stops
+  pub cursor_stays : t.cursor ≡ s.cursor
   pub at_plan : AreAtPlan t
   pub tidied : TidiesOthers s (length s.descriptors) t

@@ -1,25 +1,18 @@
 -- Pages that are laid anew, and those that are tidied for another's sake.
-use Rattle.std.specs.Prelude.{◌≡◌, ◌≢◌, ◌<◌, ℕ, zero, suc, ◌⊎◌, List, length, take, slice_set, ◌==◌}
+use Rattle.std.specs.Prelude.{◌≡◌, ◌≢◌, ◌<◌, ℕ, zero, suc, ◌⊎◌, List, length, slice_set, ◌==◌}
 use Rattle.std.specs.Bool.{MatchBool}
 use Rattle.hier_types.specs.declared.settings.Codec.{Codec}
-use Rattle.meta_cache.specs.Entries.{with_copy, forgotten}
+use Rattle.page_mover.specs.declared.turning.Turn.TheVariants.{Next}
 use Rattle.page_plan.specs.declared.least.PagePlan.{PagePlan}
 use Rattle.page_plan.specs.PagePlan.{plan_of}
 use Rattle.page_plan.specs.Pages.{page_of}
 use Rattle.page_slots.specs.declared.desc.Desc.{Desc}
-use Rattle.page_slots.specs.declared.desc.Shape.{Shape}
-use Rattle.page_slots.specs.declared.desc.Shape.TheVariants.{Slotted}
 use Rattle.page_slots.specs.Descs.{shape_of}
 use Rattle.page_slots.specs.Laid.{bytes_for}
 use Rattle.page_store.specs.PageBlocks.{IsAtPlan, ComesToPlan, HasRoom, LacksRoom}
 use Rattle.page_store.specs.Store.{HasZero, Store, desc_at}
-use Rattle.recency.specs.Kept.{Kept}
-
--- the entries after a page became these bytes: its entry, if it has one, is renewed in its place, or leaves where the page
--- has no metadata
-abbrev pub noted : Kept → ℕ → Shape → List ℕ → Kept
-noted meta page (Slotted slots) bytes = with_copy meta page (take 64 bytes)
-noted meta page shape bytes = forgotten meta page
+use Rattle.page_store.specs.Noted.{noted}
+use Rattle.page_store.specs.Turns.{TidyTurns, turn_at}
 
 -- the bytes of a page among these lines, where it is laid anew and kept so
 abbrev pub laid_bytes : Codec → List (List ℕ) → ℕ → Desc → List ℕ
@@ -40,16 +33,19 @@ pub record Lays (s : Store) (page : ℕ) (lines : List (List ℕ)) (t : Store) :
 abbrev pub plan_at : Store → ℕ → PagePlan
 plan_at s page = plan_of s.codec (page_of s.lines page)
 
--- a page comes to its plan: one that is there already stays as it is, and another is laid anew
-abbrev pub BringsToPlan : Store → ℕ → Store → Type 0
-BringsToPlan s page t = (IsAtPlan (plan_at s page) (desc_at s.descriptors page) × (t ≡ s))
-    ⊎ ((IsAtPlan (plan_at s page) (desc_at s.descriptors page) → ⊥) × Lays s page s.lines t)
+-- A page comes to its plan, by as many turns as that takes: none is left.
+pub record BringsToPlan (s : Store) (page : ℕ) (t : Store) : Type 0 where
+  pub count : ℕ
+  pub turns : TidyTurns s page count t
+  pub settled : turn_at t page ≡ Next
+  pub at_plan : IsAtPlan (plan_at s page) (desc_at t.descriptors page)
 
--- no line changes, nothing is counted, and a page of zeros stays one
+-- no line changes, nothing is counted but turns of the tidying, the mover stays where it is, and a page of zeros stays one
 pub record KeepsLines (s t : Store) : Type 0 where
   pub lines_are : t.lines ≡ s.lines
   pub codec_is : t.codec ≡ s.codec
-  pub counts_are : t.counts ≡ s.counts
+  pub counts_are : t.counts ≡ record s.counts { tidy_turns = t.counts.tidy_turns }
+  pub cursor_is : t.cursor ≡ s.cursor
   pub stops_are : t.stops ≡ s.stops
   pub ways_stay : t.meta.ways ≡ s.meta.ways
   pub frames_stay : length t.used ≡ length s.used

@@ -2,6 +2,8 @@ pub mod PageBlocks
 pub mod BlockChanges
 pub mod Rooms
 pub mod Store
+pub mod Noted
+pub mod Turns
 pub mod Crowds
 pub mod Rows
 pub mod Lays

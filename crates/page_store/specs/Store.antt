@@ -19,7 +19,7 @@ use Rattle.recency.specs.declared.entry.Entry.{Entry}
 use Rattle.recency.specs.Kept.{Kept, entry_of}
 
 -- the codec of the plans, the lines, how each page is kept, of each page the bytes of its block, the units in use, the
--- entries of the metadata cache, the counts, and how many calls were refused
+-- entries of the metadata cache, the counts, how many calls were refused, and the page whose turn of the mover comes next
 pub record Store : Type 0 where
   pub codec : Codec
   pub lines : List (List ℕ)
@@ -29,10 +29,11 @@ pub record Store : Type 0 where
   pub meta : Kept
   pub counts : PageCounts
   pub stops : ℕ
+  pub cursor : ℕ
 
 -- a store whose pages stand in this memory: what their bytes are, and which lines these say
-abbrev pub store_in : Codec → List ℕ → List Desc → List ℕ → Kept → PageCounts → ℕ → Store
-store_in codec memory descriptors used meta counts stops = record {
+abbrev pub store_in : Codec → List ℕ → List Desc → List ℕ → Kept → PageCounts → ℕ → ℕ → Store
+store_in codec memory descriptors used meta counts stops cursor = record {
   codec = codec;
   lines = all_lines (helds descriptors) (all_bytes memory (helds descriptors));
   descriptors = descriptors;
@@ -41,6 +42,7 @@ store_in codec memory descriptors used meta counts stops = record {
   meta = meta;
   counts = counts;
   stops = stops;
+  cursor = cursor;
 }
 
 -- what sizes a store: the codec of its plans, the number of its frames, and the entries of its metadata cache
@@ -52,7 +54,8 @@ pub record Sizing : Type 0 where
 abbrev pub sizing_of : Store → Sizing
 sizing_of s = record { codec = s.codec; frames = length s.used; meta = s.meta.ways }
 
--- a store of this sizing and so many pages, all of them zero; no frame is in use, and no page was looked up
+-- a store of this sizing and so many pages, all of them zero; no frame is in use, no page was looked up, and the mover stands
+-- at page 0
 abbrev pub fresh : Sizing → ℕ → Store
 fresh sizing pages = record {
   codec = sizing.codec;
@@ -63,6 +66,7 @@ fresh sizing pages = record {
   meta = record { ways = sizing.meta; lines = [] };
   counts = record { reads = 0; writes = 0; meta_hits = 0; meta_misses = 0; mover_turns = 0; tidy_turns = 0 };
   stops = 0;
+  cursor = 0;
 }
 
 -- the store has the page, and it is zero
@@ -87,7 +91,7 @@ abbrev pub AreCopies : Store → Type 0
 AreCopies s = (page : ℕ) (e : Entry) → entry_of s.meta.lines page ≡ Some e → IsCopy (shape_at s page) (bytes_at s.bytes page) e.bytes
 
 -- The pages are 1 to 65,536 and whole, each is sound in its block and says its lines, the blocks are sound, and the entries
--- of the metadata cache are true.
+-- of the metadata cache are true, and the mover stands at a page.
 pub record IsSound (s : Store) : Type 0 where
   pub some : 1 ≤ length s.descriptors
   pub most : length s.descriptors ≤ 65536
@@ -100,6 +104,7 @@ pub record IsSound (s : Store) : Type 0 where
   pub says : s.lines ≡ all_lines (helds s.descriptors) s.bytes
   pub copies : AreCopies s
   pub distinct : AreDistinct s.meta.lines
+  pub cursor_in : s.cursor < length s.descriptors
 
 -- each page is at the plan of its lines
 abbrev pub AreAtPlan : Store → Type 0
@@ -121,8 +126,3 @@ pub record IsKept (s : Store) (memory : List ℕ) (sizes : List (List ℕ)) : Ty
   pub in_memory : length memory ≡ 4096 * length s.used
   pub counted : length sizes ≡ length s.descriptors
   pub sized : AreSizes s.codec s.lines sizes
-
--- the store as it is kept, with the pages that may be off their plan
-pub record IsKeptWithStrays (s : Store) (memory : List ℕ) (sizes : List (List ℕ)) (strays : List ℕ) : Type 0 where
-  pub kept : IsKept s memory sizes
-  pub strays_are : AreStrays s strays

@@ -1,12 +1,13 @@
 // The blocks of all pages.
 ghost use Rattle.std.specs.Prelude.{◌≡◌, ◌≤◌, ◌<◌, ◌*◌, ◌^◌, ℕ, length, replicate, IfOk, IfErr, IfSome, IsTrue, ◌↔◌, OnOk, OnErr};
 ghost use Rattle.buddy_frames.specs.Units.{place_at, IsFreeBlock, IsCount};
-ghost use Rattle.page_store.specs.PageBlocks.{base_at, ComesToPlan, IsAtPlan, LacksRoom, AreSound};
+ghost use Rattle.page_store.specs.PageBlocks.{base_at, block_at, ComesToPlan, LacksRoom, AreSound};
+ghost use Rattle.page_store.specs.Turns.{CanTrim, ComesToShape};
 ghost use Rattle.page_store.specs.Rooms.{held_of};
 ghost use Rattle.page_store.specs.Store.{desc_at};
 ghost use Rattle.page_slots.specs.declared.desc.Desc.TheVariants as desc;
 
-use crate::page_block::{is_at, settle};
+use crate::page_block::{is_at, reshape, settle};
 use crate::room::Held;
 use buddy_frames::Frames;
 use hier_types::NoMemory;
@@ -86,6 +87,18 @@ impl Blocks {
         }
     }
 
+    /// Brings a page to a shape for which its block has room: the block is trimmed to it, or given back.
+    pub(crate) fn reshape(&mut self, page: usize, shape: Shape)
+        requires page_in { page < length self.old.descriptors }
+        requires can { CanTrim (block_at self.old.descriptors page) shape }
+        ensures comes { ComesToShape self.old.descriptors self.old.used page shape self.new.descriptors self.new.used }
+        ensures frames { length self.new.used ≡ length self.old.used }
+        ensures sound { AreSound self.new.descriptors self.new.used }
+    {
+        let held = mem::replace(&mut self.descriptors[page], Desc::Zero);
+        self.descriptors[page] = reshape(&mut self.frames, held, shape);
+    }
+
     /// How a page is kept.
     pub(crate) fn desc(&self, page: usize) -> &Desc
         requires { page < length self.now.descriptors }
@@ -115,14 +128,6 @@ impl Blocks {
             return None;
         }
         Some(512 * held.unit)
-    }
-
-    /// Whether a page is kept as the plan says.
-    pub(crate) fn is_at(&self, page: usize, plan: PagePlan) -> bool
-        requires { page < length self.now.descriptors }
-        ensures { IsTrue result ↔ IsAtPlan plan (desc_at self.now.descriptors page) }
-    {
-        is_at(self.desc(page), plan)
     }
 
     /// The number of free blocks of an order.

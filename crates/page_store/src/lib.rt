@@ -12,4 +12,4 @@ mod room;
 mod tests;
 mod totals;
 
-pub use pages::{Pages, sound_stores_are_laid_out, sure_writes_are_one};
+pub use pages::{Pages, sound_stores_are_laid_out, sure_writes_are_one, unwritten_pages_settle};

@@ -1,14 +1,16 @@
-// One page's block, as its plan changes.
+// One page's block, as its plan changes or a turn is made on it.
 ghost use Rattle.std.specs.Prelude.{IsTrue, ◌↔◌, ◌≡◌, ◌≤◌, ◌<◌, Some, None, IfOk, IfErr, IfSome, OnErr};
 ghost use Rattle.buddy_frames.specs.Units.{IsUsedPlace};
 ghost use Rattle.page_plan.specs.Sizes.{order_of};
-ghost use Rattle.page_slots.specs.Descs.{block_of};
+ghost use Rattle.page_slots.specs.Descs.{block_of, shape_of};
 ghost use Rattle.page_store.specs.PageBlocks.{IsAtPlan, Outgrows};
 ghost use Rattle.page_store.specs.BlockChanges.{HasNoneBut, ChangesBlock, GetsBlock};
+ghost use Rattle.page_slots.specs.Forms.{order_of as slots_order};
+ghost use Rattle.page_store.specs.Turns.{CanTrim};
 
 use buddy_frames::{Block, Frames};
 use page_plan::PagePlan;
-use page_slots::Desc;
+use page_slots::{Desc, Shape, Slots};
 
 /// Whether a page that is kept so is at the plan.
 pub(crate) fn is_at(desc: &Desc, plan: PagePlan) -> bool
@@ -138,4 +140,29 @@ pub(crate) fn settle(frames: &mut Frames, held: Desc, plan: PagePlan) -> Result<
             Err(no_place) => Err(no_place),
         },
     }
+}
+
+/// The order of the block that a page with such slots has.
+fn order_of(slots: Slots) -> u8
+    ensures { result ≡ slots_order slots }
+{
+    match slots {
+        Slots::Packed { order, .. } | Slots::Mid { order, .. } => order,
+    }
+}
+
+/// Brings a page to a shape for which its block has room: the block is trimmed to it, or given back.
+pub(crate) fn reshape(frames: &mut Frames, held: Desc, shape: Shape) -> Desc
+    requires live { IfSome (block_of held) (IsUsedPlace frames.old) }
+    requires can { CanTrim (block_of held) shape }
+    ensures shape { shape_of result ≡ shape }
+    ensures changes { ChangesBlock frames.old (block_of held) (block_of result) frames.new }
+{
+    let Shape::Slotted(slots) = shape else {
+        release(frames, held);
+        return Desc::Zero;
+    };
+    let block = block_for(frames, held, order_of(slots)).unwrap();
+    // Its slots are still to be told.
+    Desc::Raw { block }.with_slots(slots)
 }

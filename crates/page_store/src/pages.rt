@@ -1,5 +1,5 @@
 // The memory as a layer.
-ghost use Rattle.std.specs.Prelude.{◌≡◌, ◌≢◌, ◌≤◌, ◌<◌, ◌*◌, ◌/◌, ◌%◌, ◌+◌, ◌^◌, ◌⊎◌, ℕ, List, [], length, replicate, slice_set, IsTrue, IsFalse, IfOk, IfErr, IfSome, OnOk, OnErr, MatchResult};
+ghost use Rattle.std.specs.Prelude.{◌≡◌, ◌≢◌, ◌↔◌, ◌≤◌, ◌<◌, ◌*◌, ◌/◌, ◌%◌, ◌+◌, ◌^◌, ◌⊎◌, ℕ, List, [], length, replicate, slice_set, IsTrue, IsFalse, IfOk, IfErr, IfSome, OnOk, OnErr, MatchResult};
 ghost use Rattle.buddy_frames.specs.Units.{place_at, IsFreeBlock, IsCount};
 ghost use Rattle.hier_types.specs.Lines.{AreLines};
 ghost use Rattle.hier_types.specs.Settings.{IsWithin as IsWithinRange};
@@ -10,19 +10,21 @@ ghost use Rattle.page_plan.specs.Pages.{page_of};
 ghost use Rattle.page_slots.specs.Descs.{size_of};
 ghost use Rattle.page_store.specs.Contents.{SureWritesAreOne};
 ghost use Rattle.page_store.specs.Layouts.{place_in, SoundStoresAreLaidOut};
-ghost use Rattle.page_store.specs.Lays.{noted};
+ghost use Rattle.page_store.specs.Noted.{noted};
+ghost use Rattle.page_store.specs.Turns.{UnwrittenPagesSettle};
 ghost use Rattle.page_store.specs.PageBlocks.{base_at, HasRoom, LacksRoom};
 ghost use Rattle.page_store.specs.Rooms.{bytes_of, IsWithin, IsInPage, changed, with_change};
 
 use crate::blocks::Blocks;
 use crate::page_lines::lines_in;
 use crate::room::{Change, Held, relay};
-use crate::totals::row_of_shape;
+use crate::totals::{replace_row, row_of_shape};
 use hier_types::{
     Codec, Geometry, Layer, Line, LineNo, NoMemory, NoSpace, PAGE_LINES, PageCounts, PageNo, Totals,
 };
 use meta_cache::MetaCache;
 use number_set::NumberSet;
+use page_mover::{Turn, TurnKind, turn_by};
 use page_plan::PageSizes;
 use page_slots::{PlaceRow, PutResult, Shape, place};
 use size_ledger::{Ledger, SizeRow};
@@ -31,10 +33,10 @@ use std::marker::Model;
 
 /// A memory of 1 to 65,536 pages of 64 lines, in frames of 4,096 bytes. Each page that is not zero has its bytes in its
 /// block: its metadata, slots and exceptions, or its lines one after another. Beside them stands one byte a line for what
-/// it takes in a slot, and a bit for each page that may be off its least layout under the codec, which is its plan. A cache
-/// has the metadata of the pages that were looked up last. No call but `new` takes memory. A call that changes lines is
-/// refused only where every other page is at its plan, and no place of the frames is free for the page that it changes;
-/// never where there are at least as many frames as pages.
+/// it takes in a slot, the totals of what all pages take, and a bit for each page that may be off its least layout under
+/// the codec, which is its plan. A cache has the metadata of the pages that were looked up last. No call but `new` takes
+/// memory. A call that changes lines is refused only where every other page is at its plan, and no place of the frames is
+/// free for the page that it changes; never where there are at least as many frames as pages.
 #[derive(Drop)]
 pub struct Pages {
     codec: Codec,
@@ -45,16 +47,19 @@ pub struct Pages {
     meta: MetaCache,
     counts: PageCounts,
     stops: u64,
+    cursor: u32,
+    ledger: Ledger,
 }
 
 impl Model for Pages {
-    ghost use Rattle.page_store.specs.Store.{Store, IsKeptWithStrays, store_in};
+    ghost use Rattle.page_store.specs.Rows.{IsKeptWhole};
+    ghost use Rattle.page_store.specs.Store.{Store, store_in};
 
     ghost Value = { Store };
 
-    ghost view = { λ p. store_in p.codec p.memory.items p.blocks.descriptors p.blocks.used p.meta p.counts p.stops };
+    ghost view = { λ p. store_in p.codec p.memory.items p.blocks.descriptors p.blocks.used p.meta p.counts p.stops p.cursor };
 
-    ghost invariant = { λ p. IsKeptWithStrays (store_in p.codec p.memory.items p.blocks.descriptors p.blocks.used p.meta p.counts p.stops) p.memory.items p.sizes.items p.strays };
+    ghost invariant = { λ p. IsKeptWhole (store_in p.codec p.memory.items p.blocks.descriptors p.blocks.used p.meta p.counts p.stops p.cursor) p.memory.items p.sizes.items p.strays p.ledger };
 }
 
 /// So many copies of a value.
@@ -84,10 +89,11 @@ impl Pages {
     ghost use Rattle.page_plan.specs.Sizes.{sizes_of_memory};
     ghost use Rattle.page_store.specs.Calls.{HasNoPlace, Places, PlacesPage, Refused, PutsIn, StaysZero, StoreRead, StoreWrite, Tidies, looked_up};
     ghost use Rattle.page_store.specs.Crowds.{Crowded};
-    ghost use Rattle.page_store.specs.Lays.{BringsToPlan, KeepsLines, Lays, OthersAreAtPlan, TidiesOthers};
-    ghost use Rattle.page_store.specs.Rows.{row_at, totals_at};
-    ghost use Rattle.size_ledger.specs.Ranges.{HasKnownOrder};
-    ghost use Rattle.page_store.specs.Store.{AreAtPlan, IsSound, HasZero, fresh};
+    ghost use Rattle.page_store.specs.Lays.{BringsToPlan, KeepsLines, Lays, OthersAreAtPlan, TidiesOthers, plan_at};
+    ghost use Rattle.page_store.specs.PageBlocks.{IsAtPlan};
+    ghost use Rattle.page_store.specs.Turns.{MakesTurnOn, MoverTurns, TurnsPage, cursor_after, far_at, turn_at};
+    ghost use Rattle.page_store.specs.Rows.{totals_at};
+    ghost use Rattle.page_store.specs.Store.{AreAtPlan, IsSound, HasZero, desc_at, fresh};
 
     /// The pages of the span, all of them zero, 1 to 65,536 frames, of which none is in use, and a cache for the metadata of
     /// `meta` pages, 1 to 1,024. All memory is taken here.
@@ -111,6 +117,10 @@ impl Pages {
         let sizes = copies(alloc, pages as usize, PageSizes::of_zeros())?;
         let strays = NumberSet::new(alloc)?;
         let meta = MetaCache::new(alloc, meta)?;
+        let mut ledger = Ledger::new();
+        for page in 0..pages as usize {
+            ledger.add_page(page, SizeRow::ZEROS);
+        }
         Ok(Pages {
             codec,
             memory,
@@ -120,6 +130,8 @@ impl Pages {
             meta,
             counts: PageCounts::default(),
             stops: 0,
+            cursor: 0,
+            ledger,
         })
     }
 
@@ -159,9 +171,12 @@ impl Pages {
         if held.put(self.codec, &mut self.memory, offset, from) == PutResult::Overflow {
             return false;
         }
+        let before = row_of_shape(self.codec, held.shape, &self.sizes[index]);
         self.sizes[index].set(self.codec, offset as usize, from);
         note(&mut self.meta, page, held, &self.memory);
         self.strays.put(page.0, true);
+        let after = row_of_shape(self.codec, held.shape, &self.sizes[index]);
+        replace_row(&mut self.ledger, before, after);
         true
     }
 
@@ -183,27 +198,67 @@ impl Pages {
         self.blocks.settle(page, sizes.plan())?;
         let new = self.blocks.held(page);
         relay(self.codec, old, new, change, &mut self.memory);
+        let before = row_of_shape(self.codec, old.shape, &self.sizes[page]);
+        let after = row_of_shape(self.codec, new.shape, &sizes);
         self.sizes[page] = sizes;
         note(&mut self.meta, PageNo(page as u32), new, &self.memory);
         self.strays.put(page as u32, false);
+        replace_row(&mut self.ledger, before, after);
         Ok(())
     }
 
-    /// Brings one page to its plan. It always has room in its own block. One that is no stray is there already.
+    /// Makes a turn that is a page's next one. The page stays in its block, or in the first units of it.
+    fn make(&mut self, page: usize, turn: Turn)
+        requires page_in { page < length self.old.descriptors }
+        requires turn { turn ≡ turn_at self.old page }
+        requires off { turn ≢ Turn.Next }
+        ensures makes { MakesTurnOn self.old page turn self.new }
+        ensures falls { far_at self.new page < far_at self.old page }
+        ensures keeps { KeepsLines self.old self.new }
+    {
+        let held = self.blocks.held(page);
+        let before = row_of_shape(self.codec, held.shape, &self.sizes[page]);
+        let shape = held.turn(self.codec, turn, &mut self.memory);
+        self.blocks.reshape(page, shape);
+        let new = self.blocks.held(page);
+        let after = row_of_shape(self.codec, new.shape, &self.sizes[page]);
+        note(&mut self.meta, PageNo(page as u32), new, &self.memory);
+        replace_row(&mut self.ledger, before, after);
+    }
+
+    /// Makes the next turn of a page. One that is no stray is at its plan, and one that is found there is no stray any more.
+    fn turn(&mut self, page: usize) -> Turn
+        requires { page < length self.old.descriptors }
+        ensures turns { TurnsPage self.old page result self.new }
+        ensures at_plan { result ≡ Turn.Next ↔ IsAtPlan (plan_at self.old page) (desc_at self.old.descriptors page) }
+        ensures far { result ≡ Turn.Next ↔ (far_at self.old page ≡ 0) }
+        ensures falls { result ≢ Turn.Next → far_at self.new page < far_at self.old page }
+        ensures most { far_at self.old page ≤ 183 }
+        ensures keeps { KeepsLines self.old self.new }
+    {
+        if !self.strays.has(page as u32) {
+            return Turn::Next;
+        }
+        let sizes = self.sizes[page];
+        let held = self.blocks.held(page);
+        let turn = turn_by(held.shape, held.bytes(&self.memory), sizes.plan(), &sizes);
+        if turn == Turn::Next {
+            self.strays.put(page as u32, false);
+            return Turn::Next;
+        }
+        self.make(page, turn);
+        turn
+    }
+
+    /// Brings one page to its plan, by as many turns as that takes. They are counted.
     fn tidy_page(&mut self, page: usize)
         requires { page < length self.old.descriptors }
         ensures brings { BringsToPlan self.old page self.new }
         ensures keeps { KeepsLines self.old self.new }
     {
-        if !self.strays.has(page as u32) {
-            return;
+        while self.turn(page) != Turn::Next {
+            self.counts.tidy_turns = self.counts.tidy_turns.saturating_add(1);
         }
-        let sizes = self.sizes[page];
-        if self.blocks.is_at(page, sizes.plan()) {
-            self.strays.put(page as u32, false);
-            return;
-        }
-        self.lay(page, sizes, &Change::Nothing).unwrap();
     }
 
     /// Brings every page but one to its plan, in rising order.
@@ -273,6 +328,45 @@ impl Pages {
         Ok(())
     }
 
+    /// The mover goes on to the next page, and from the last one to page 0.
+    fn move_on(&mut self)
+        ensures { self.new ≡ record self.old { cursor = cursor_after Turn.Next self.old } }
+    {
+        self.cursor = if self.cursor as usize + 1 == self.sizes.len() {
+            0
+        } else {
+            self.cursor + 1
+        };
+    }
+
+    /// One turn of the mover, on the page where it stands: one line goes to a slot of another length, one exception to
+    /// another chunk, the page is cut to half its block, or it is laid anew where the block has no room for such steps.
+    /// No line changes and no other page. A turn on a page at its plan is Next, which is exactly where it is 0 far from
+    /// it, and the mover goes on to the next page; every other turn brings it nearer. It never refuses.
+    pub fn mover_turn(&mut self) -> TurnKind
+        ensures turns { MoverTurns self.old result self.new }
+        ensures lines { self.new.lines ≡ self.old.lines }
+        ensures at_plan { result ≡ TurnKind.Next ↔ IsAtPlan (plan_at self.old self.old.cursor) (desc_at self.old.descriptors self.old.cursor) }
+        ensures far { result ≡ TurnKind.Next ↔ (far_at self.old self.old.cursor ≡ 0) }
+        ensures falls { result ≢ TurnKind.Next → far_at self.new self.old.cursor < far_at self.old self.old.cursor }
+        ensures most { far_at self.old self.old.cursor ≤ 183 }
+    {
+        let turn = self.turn(self.cursor as usize);
+        if turn == Turn::Next {
+            self.move_on();
+        }
+        self.counts.mover_turns = self.counts.mover_turns.saturating_add(1);
+        turn.kind()
+    }
+
+    /// The page where the mover stands.
+    pub fn cursor(&self) -> PageNo
+        ensures page { result.0 ≡ self.now.cursor }
+        ensures inside { result.0 < length self.now.descriptors }
+    {
+        PageNo(self.cursor)
+    }
+
     /// Counts one more refusal.
     fn refuse(&mut self, page: PageNo, order: u8) -> NoSpace
         ensures refusal { result ≡ record { page = page; order = order } }
@@ -283,8 +377,8 @@ impl Pages {
         NoSpace { page, order }
     }
 
-    /// Brings every page to its plan, in rising order. It is never refused: the plan of a page that has a block never asks
-    /// for a larger one.
+    /// Brings every page to its plan by turns, in rising order. They are counted apart from the mover's, which stays where it
+    /// is. It is never refused: the plan of a page that has a block never asks for a larger one.
     pub fn tidy(&mut self)
         ensures { Tidies self.old self.new }
     {
@@ -327,28 +421,13 @@ impl Pages {
         self.blocks.base(page)
     }
 
-    /// What a page takes as it lies.
-    fn row(&self, page: usize) -> SizeRow
-        requires { page < length self.now.descriptors }
-        ensures value { result ≡ row_at self.now page }
-        ensures known { HasKnownOrder result }
-    {
-        let sizes = &self.sizes[page];
-        let held = self.blocks.held(page);
-        row_of_shape(self.codec, held.shape, sizes)
-    }
-
-    /// What the pages take as they lie, summed anew from how each is kept and from the sizes of its lines. Where each is
-    /// at its plan, that is what their lines alone tell.
+    /// What the pages take as they lie, from how each is kept and from the sizes of its lines. The sums are kept with each
+    /// change. Where each page is at its plan, that is what their lines alone tell.
     pub fn totals(&self) -> Totals
         ensures lie { result ≡ totals_at self.now }
         ensures at_plan { AreAtPlan self.now → result ≡ sizes_of_memory self.now.codec self.now.lines }
     {
-        let mut ledger = Ledger::new();
-        for page in 0..self.sizes.len() {
-            ledger.add_page(page, self.row(page));
-        }
-        ledger.totals()
+        self.ledger.totals()
     }
 
     /// The calls that were counted. Between any two calls the memory is sound.
@@ -400,6 +479,11 @@ impl Layer for Pages {
 /// size of it.
 pub fn sound_stores_are_laid_out()
     ensures { SoundStoresAreLaidOut }
+{}
+
+/// A page is at its plan after at most 183 turns that are made on it, as long as it is left alone between them.
+pub fn unwritten_pages_settle()
+    ensures { UnwrittenPagesSettle }
 {}
 
 /// A write that can't be cut has one answer and leaves one state, by the contents alone.

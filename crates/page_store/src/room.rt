@@ -6,10 +6,14 @@ ghost use Rattle.page_slots.specs.Descs.{content_of, line_of, size_of};
 ghost use Rattle.page_slots.specs.Laid.{HasRoomFor, bytes_for};
 ghost use Rattle.page_slots.specs.Puts.{GoesRight, Overflows};
 ghost use Rattle.page_slots.specs.Sound.{IsSound};
+ghost use Rattle.page_mover.specs.Far.{far_of};
+ghost use Rattle.page_mover.specs.Moves.{MakesTurn, body};
+ghost use Rattle.page_mover.specs.Turns.{turn_of};
 ghost use Rattle.page_store.specs.Rooms.{held_of, start_of, bytes_of, IsWithin, IsInPage, changed};
 
 use byte_parts::read_part;
 use hier_types::{Codec, Line};
+use page_mover::{Turn, make_turn};
 use page_slots::{Desc, PutResult, Shape};
 
 /// How a page is kept, and the first unit of its block, of 512 bytes. Where the page is zero, the unit means nothing.
@@ -107,6 +111,21 @@ impl Held {
         let size = self.shape.size();
         self.shape
             .put(codec, &mut memory[at..at + size], line, from)
+    }
+
+    /// Makes the page's next turn, and answers its shape after that, whose bytes are the first of the block.
+    #[tactic(auto, using(byte_parts::proofs::PartLemmas::writes))]
+    pub(crate) fn turn(self, codec: Codec, turn: Turn, memory: &mut [u8]) -> Shape
+        requires within { IsWithin memory.old self }
+        requires sound { IsSound codec self.shape (bytes_of memory.old self) }
+        requires turn { turn ≡ turn_of codec self.shape (bytes_of memory.old self) }
+        ensures changes { ChangesWithin (start_of self) (size_of self.shape) memory.old memory.new }
+        ensures makes { MakesTurn codec self.shape (bytes_of memory.old self) turn result (bytes_of memory.new self) }
+        ensures falls { turn ≢ Turn.Next → far_of codec result (body result (bytes_of memory.new self)) < far_of codec self.shape (bytes_of memory.old self) }
+    {
+        let at = self.start();
+        let size = self.shape.size();
+        make_turn(codec, self.shape, turn, &mut memory[at..at + size])
     }
 
     /// All lines of the page.

@@ -2,6 +2,8 @@ ghost use Rattle.std.specs.Prelude.{◌≡◌, ◌≢◌, ◌≤◌, ◌*◌, �
 ghost use Rattle.page_store.specs.Store.{HasZero, fresh};
 ghost use Rattle.hier_types.specs.declared.settings.Codec.TheVariants.{Bdi};
 
+mod turns;
+
 use super::*;
 use hier_types::{Codec, Geometry, Layer, Line, LineNo, NoMemory, NoSpace, PageNo, Totals};
 use page_slots::{PlaceKind, PlaceRow};

@@ -5,11 +5,13 @@ ghost use Rattle.line_codec.specs.Layout.{stored_sizes};
 ghost use Rattle.page_plan.specs.KeptSizes.{kept_sizes};
 ghost use Rattle.page_store.specs.Rooms.{HasTarget};
 ghost use Rattle.page_store.specs.Rows.{row_of_shape};
+ghost use Rattle.size_ledger.specs.Ranges.{AreWithinPages, HasKnownOrder};
+ghost use Rattle.size_ledger.specs.Shares.{AreWithin, plus, share};
 
 use hier_types::Codec;
 use page_plan::PageSizes;
 use page_slots::{Shape, Slots};
-use size_ledger::SizeRow;
+use size_ledger::{Ledger, SizeRow};
 
 /// What a page of a shape takes whose lines have these sizes, whether it is at its plan or not.
 pub(crate) fn row_of_shape(codec: Codec, shape: Shape, sizes: &PageSizes) -> SizeRow
@@ -32,4 +34,15 @@ pub(crate) fn row_of_shape(codec: Codec, shape: Shape, sizes: &PageSizes) -> Siz
             },
         ) => sizes.row_in_slots(codec, order, small, large, at),
     }
+}
+
+/// What a page took is taken out of the totals, and what it takes now is added.
+pub(crate) fn replace_row(ledger: &mut Ledger, before: SizeRow, after: SizeRow)
+    requires within { AreWithin (share before) ledger.old }
+    requires most { AreWithinPages 65536 ledger.old }
+    requires known { HasKnownOrder after }
+    ensures { plus ledger.new (share before) ≡ plus ledger.old (share after) }
+{
+    ledger.remove(&before);
+    ledger.add(&after);
 }

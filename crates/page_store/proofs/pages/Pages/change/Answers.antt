@@ -15,7 +15,7 @@ use Rattle.page_store.proofs.pages.Pages.change.Goals as goal
 use Rattle.page_store.proofs.pages.Pages.change.Goals.{After-set, then-not-put+in_ok-rewrite, else-not-put}
 
 abbrev seen : After-set → Store
-seen c = store_in c.self.inside.codec c.self.inside.memory.items c.self.inside.blocks.descriptors c.self.inside.blocks.used c.self.inside.meta c.self.inside.counts c.self.inside.stops
+seen c = store_in c.self.inside.codec c.self.inside.memory.items c.self.inside.blocks.descriptors c.self.inside.blocks.used c.self.inside.meta c.self.inside.counts c.self.inside.stops c.self.inside.cursor
 
 -- the lines are as many as before
 lines_stay : (c : After-set) → (seen c).lines ≡ c.args.self.now.lines
@@ -85,7 +85,7 @@ returns c =
     let l = c.look.new.self in
     let bytes = c.args.from.now in
     let p = c.self-2.inside in
-    let inside : Store = store_in p.codec p.memory.items p.blocks.descriptors p.blocks.used p.meta p.counts p.stops in
+    let inside : Store = store_in p.codec p.memory.items p.blocks.descriptors p.blocks.used p.meta p.counts p.stops p.cursor in
     let more : c.saturating_add-self-inside.result ≡ raised p.counts.writes = search rules in
     let counted : record inside { counts = record p.counts { writes = c.saturating_add-self-inside.result } } ≡ record inside { counts = written_more p.counts } =
     ap (λ (n : ℕ). record inside { counts = record p.counts { writes = n } }) more in

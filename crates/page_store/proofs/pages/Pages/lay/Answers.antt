@@ -1,7 +1,9 @@
 use Rattle.std.specs.Prelude.{IfErr}
-use Rattle.std.proofs.Common.{arith, rules, ◌≡◌, ◌<◌, ◌∙◌, List, ℕ, ◌++◌, length, take, drop, sym, ap, subst}
+use Rattle.std.proofs.Common.{arith, rules, ◌≡◌, ◌<◌, ◌∙◌, List, ℕ, ◌++◌, get_or, length, take, drop, sym, ap, subst}
+use Rattle.std.proofs.lemmas.List.{get_or-set_same, length-set}
 use Rattle.byte_parts.specs.Parts.{ChangesWithin}
 use Rattle.hier_types.specs.Lines.{AreLines}
+use Rattle.line_codec.specs.Layout.{stored_sizes}
 use Rattle.page_plan.specs.declared.least.PagePlan.{PagePlan}
 use Rattle.page_plan.specs.KeptSizes.{kept_sizes}
 use Rattle.page_plan.specs.PagePlan.{IsInRange, plan_of}
@@ -11,17 +13,23 @@ use Rattle.page_slots.specs.Laid.{HasRoomFor}
 use Rattle.page_slots.specs.Sound.{IsSound as IsSoundPage}
 use Rattle.page_store.specs.declared.room.Held.{Held}
 use Rattle.page_store.specs.PageBlocks.{ComesToPlan, HasRoom, LacksRoom}
-use Rattle.page_store.specs.Rooms.{IsWithin, bytes_of, changed, held_of, with_change}
+use Rattle.page_store.specs.Rooms.{HasTarget, IsWithin, bytes_of, changed, held_of, with_change}
+use Rattle.page_store.specs.Rows.{row_at, row_of_shape}
 use Rattle.page_plan.proofs.PageLemmas.{page_of-with}
 use Rattle.page_store.specs.Store.{Store, desc_at, store_in}
 use Rattle.page_store.proofs.BlockLemmas.{had_room}
+use Rattle.page_store.proofs.LedgerLemmas.{ledger_laid, row_is, totals_few, totals_have}
 use Rattle.page_store.proofs.PagesLemmas as own
 use Rattle.page_store.proofs.StrayLemmas.{strays_laid}
+use Rattle.page_store.proofs.TotalLemmas.{has_target}
+use Rattle.size_ledger.specs.declared.row.SizeRow.{SizeRow}
+use Rattle.size_ledger.specs.Ranges.{AreWithinPages}
+use Rattle.size_ledger.specs.Shares.{AreWithin, share}
 use Rattle.page_store.proofs.pages.Pages.lay.Goals as goal
-use Rattle.page_store.proofs.pages.Pages.lay.Goals.{After-held-new, After-relay, After-note}
+use Rattle.page_store.proofs.pages.Pages.lay.Goals.{After-held-new, After-relay}
 
 abbrev seen : After-held-new → Store
-seen c = store_in c.self.inside.codec c.self.inside.memory.items c.self.inside.blocks.descriptors c.self.inside.blocks.used c.self.inside.meta c.self.inside.counts c.self.inside.stops
+seen c = store_in c.self.inside.codec c.self.inside.memory.items c.self.inside.blocks.descriptors c.self.inside.blocks.used c.self.inside.meta c.self.inside.counts c.self.inside.stops c.self.inside.cursor
 
 page_in : (c : After-held-new) → c.args.page < length c.self.inside.blocks.descriptors
 page_in c = rw (← c.self.view_is) at c.requires.page_in
@@ -104,6 +112,31 @@ note-requires c' =
     let same : length c'.deref.result.now ≡ length c.self.inside.memory.items = ap length (c'.deref.ensures.value ∙ back r) ∙ changes.same_length ∙ ap length r.deref_mut.ensures.value in
     omega (arith, within c, same)
 
+-- what the page took before, by the sizes that were read
+row_before : (c : After-held-new) (read : List ℕ) (row : SizeRow) → read ≡ get_or c.self.inside.sizes.items c.args.page read
+    → ((lines : List (List ℕ)) → AreLines lines → kept_sizes c.self.inside.codec lines ≡ read → row ≡ row_of_shape c.held-old.result.shape (stored_sizes c.self.inside.codec lines)) → row ≡ row_at (seen c) c.args.page
+row_before c read row at value =
+    row_is (seen c) c.self.inside.memory.items c.self.inside.sizes.items c.self.invariant.kept c.args.page c.held-old.result.shape read row (page_in c)
+    (ap (λ (h : Held). h.shape) (old_is c) ∙ sym (own.own_shape (seen c) c.self.inside.memory.items c.self.inside.sizes.items c.self.invariant.kept c.args.page (page_in c))) at value
+
+pub row_of_shape-before-requires : goal.row_of_shape-before-requires
+row_of_shape-before-requires c' =
+    let c = (goal.at.row_of_shape-before-requires c').After-held-new in
+    subst (λ (h : Held). HasTarget h.shape) (sym (old_is c))
+    (has_target c.self.inside.codec _ _ (own.own_sound (seen c) c.self.inside.memory.items c.self.inside.sizes.items c.self.invariant.kept c.args.page (page_in c)))
+
+pub replace_row-requires-clause-within : goal.replace_row-requires-clause-within
+replace_row-requires-clause-within c' =
+    let c = (goal.at.replace_row-requires-clause-within c').After-held-new in
+    let before = row_before c c'.index.result.now c'.row_of_shape-before.result c'.index.ensures c'.row_of_shape-before.ensures in
+    subst (λ (row : SizeRow). AreWithin (share row) c.self.inside.ledger) (sym before)
+    (subst (AreWithin (share (row_at (seen c) c.args.page))) (sym c.self.invariant.totals_are) (totals_have (seen c) c.args.page (page_in c)))
+
+pub replace_row-requires-clause-most : goal.replace_row-requires-clause-most
+replace_row-requires-clause-most c' =
+    let c = (goal.at.replace_row-requires-clause-most c').After-held-new in
+    subst (AreWithinPages 65536) (sym c.self.invariant.totals_are) (totals_few (seen c) c.self.invariant.kept.sound)
+
 pub invariant_of-self-2 : goal.invariant_of-self-2
 invariant_of-self-2 c' =
     let r = (goal.at.invariant_of-self-2 c').After-relay in
@@ -112,13 +145,21 @@ invariant_of-self-2 c' =
     c.settle.new.self.descriptors c.settle.new.self.used (comes c) c.in_ok-settle.ensures.sound c.in_ok-settle.ensures.frames (range c)
     c.held-new.result (new_is c) r.deref_mut.result.now r.relay.new.memory _ c'.deref.result.now r.deref_mut.ensures.value (back r) c'.deref.ensures.value
     _ (gathered c r.deref_mut.result.now r.deref_mut.ensures.value) r.relay.ensures.changes r.relay.ensures.sound r.relay.ensures.content r.relay.ensures.value c'.note.new.meta c'.note.ensures in
+    let kept = own.kept_by (seen c) c.self.inside.memory.items c.self.inside.sizes.items c.self.invariant.kept c.args.page (page_in c) (lines c) (whole c)
+    c.settle.new.self.descriptors c.settle.new.self.used (comes c) c.in_ok-settle.ensures.sound c.in_ok-settle.ensures.frames (range c)
+    c.held-new.result (new_is c) r.deref_mut.result.now r.relay.new.memory _ c'.deref.result.now r.deref_mut.ensures.value (back r) c'.deref.ensures.value
+    _ (gathered c r.deref_mut.result.now r.deref_mut.ensures.value) r.relay.ensures.changes r.relay.ensures.sound r.relay.ensures.content r.relay.ensures.value c'.note.new.meta c'.note.ensures
+    c.args.sizes (sized c) in
+    let pages : c.args.page < length c.settle.new.self.descriptors = omega (arith, page_in c, ap length lays.comes.descriptors_are, length-set c.self.inside.blocks.descriptors c.args.page lays.comes.desc) in
+    let before = row_before c c'.index.result.now c'.row_of_shape-before.result c'.index.ensures c'.row_of_shape-before.ensures in
+    let after =
+    row_is _ _ _ kept c.args.page c.held-new.result.shape c.args.sizes c'.row_of_shape-after.result pages (ap (λ (h : Held). h.shape) (new_is c) ∙ sym (own.own_shape _ _ _ kept c.args.page pages))
+    (sym (get_or-set_same c.self.inside.sizes.items c.args.page c.args.sizes c.args.sizes (omega (arith, page_in c, c.self.invariant.kept.counted)))) c'.row_of_shape-after.ensures in
     record {
-      kept = own.kept_by (seen c) c.self.inside.memory.items c.self.inside.sizes.items c.self.invariant.kept c.args.page (page_in c) (lines c) (whole c)
-          c.settle.new.self.descriptors c.settle.new.self.used (comes c) c.in_ok-settle.ensures.sound c.in_ok-settle.ensures.frames (range c)
-          c.held-new.result (new_is c) r.deref_mut.result.now r.relay.new.memory _ c'.deref.result.now r.deref_mut.ensures.value (back r) c'.deref.ensures.value
-          _ (gathered c r.deref_mut.result.now r.deref_mut.ensures.value) r.relay.ensures.changes r.relay.ensures.sound r.relay.ensures.content r.relay.ensures.value c'.note.new.meta c'.note.ensures
-          c.args.sizes (sized c);
+      kept = kept;
       strays_are = strays_laid (seen c) _ c.self.inside.strays c'.put.new.self c.args.page (lines c) c.self.invariant.kept.sound (page_in c) (whole c) c.self.invariant.strays_are c'.put.ensures lays;
+      totals_are = ledger_laid (seen c) _ c.args.page (lines c) c'.row_of_shape-before.result c'.row_of_shape-after.result c.self.inside.ledger _ c.self.invariant.kept.sound (page_in c) (whole c) lays
+          before after c.self.invariant.totals_are c'.replace_row.ensures;
     }
 
 pub returns-clause-ok : goal.returns-clause-ok
@@ -143,7 +184,7 @@ returns-clause-room c' =
 pub returns-in_err-settle-clause-err : goal.returns-in_err-settle-clause-err
 returns-in_err-settle-clause-err c =
     let p = c.self.inside in
-    let s = store_in p.codec p.memory.items p.blocks.descriptors p.blocks.used p.meta p.counts p.stops in
+    let s = store_in p.codec p.memory.items p.blocks.descriptors p.blocks.used p.meta p.counts p.stops p.cursor in
     let new = changed c.args.change.now (page_of s.lines c.args.page) in
     let page_in : c.args.page < length p.blocks.descriptors = rw (← c.self.view_is) at c.requires.page_in in
     let are : AreLines new = rw (← c.self.view_is) at c.requires.lines in

@@ -9,7 +9,7 @@ use Rattle.page_store.proofs.pages.Pages.layout_row.Goals as goal
 use Rattle.page_store.proofs.pages.Pages.layout_row.Goals.{After-deref}
 
 abbrev seen : After-deref → Store
-seen c = store_in c.self.inside.codec c.self.inside.memory.items c.self.inside.blocks.descriptors c.self.inside.blocks.used c.self.inside.meta c.self.inside.counts c.self.inside.stops
+seen c = store_in c.self.inside.codec c.self.inside.memory.items c.self.inside.blocks.descriptors c.self.inside.blocks.used c.self.inside.meta c.self.inside.counts c.self.inside.stops c.self.inside.cursor
 
 abbrev desc : After-deref → Desc
 desc c = desc_at c.self.inside.blocks.descriptors c.args.page.0

@@ -7,7 +7,7 @@ use Rattle.page_store.proofs.pages.Pages.look.Goals as goal
 use Rattle.page_store.proofs.pages.Pages.look.Goals.{After-held-held}
 
 abbrev seen : After-held-held → Store
-seen c = store_in c.self.inside.codec c.self.inside.memory.items c.self.inside.blocks.descriptors c.self.inside.blocks.used c.self.inside.meta c.self.inside.counts c.self.inside.stops
+seen c = store_in c.self.inside.codec c.self.inside.memory.items c.self.inside.blocks.descriptors c.self.inside.blocks.used c.self.inside.meta c.self.inside.counts c.self.inside.stops c.self.inside.cursor
 
 page_in : (c : After-held-held) → (c.args.line.0 / 64) < length c.self.inside.blocks.descriptors
 page_in c =
@@ -37,6 +37,7 @@ invariant_of-self c' =
       kept = own.kept_looked (seen c) c.self.inside.memory.items c.self.inside.sizes.items (c.args.line.0 / 64) c'.in-Slotted.field-0 c'.chunk-chunk.result _ c.self.invariant.kept
           (shape_is c ∙ c'.in-Slotted.is) (own_chunk c c'.deref.result.now c'.chunk-chunk.result c'.deref.ensures.value c'.chunk-chunk.ensures);
       strays_are = c.self.invariant.strays_are;
+      totals_are = c.self.invariant.totals_are;
     })
 
 pub invariant_of-self-else-look : goal.invariant_of-self-else-look
@@ -46,4 +47,5 @@ invariant_of-self-else-look c' =
       kept = own.kept_looked (seen c) c.self.inside.memory.items c.self.inside.sizes.items (c.args.line.0 / 64) c'.in-Slotted.field-0 c'.chunk-chunk.result _ c.self.invariant.kept
           (shape_is c ∙ c'.in-Slotted.is) (own_chunk c c'.deref.result.now c'.chunk-chunk.result c'.deref.ensures.value c'.chunk-chunk.ensures);
       strays_are = c.self.invariant.strays_are;
+      totals_are = c.self.invariant.totals_are;
     })

@@ -1,6 +1,7 @@
 use Rattle.std.proofs.Common.{◌/◌, ◌%◌, arith, rules, inl, inr, ◌≡◌, ◌≢◌, ◌<◌, ◌∙◌, List, ℕ, ◌+◌, ◌*◌, ◌++◌, length, get_or, set, take, drop, refl, sym, ap, subst}
 use Rattle.byte_parts.specs.Parts.{ChangesWithin}
-use Rattle.hier_types.specs.Lines.{zero_line}
+use Rattle.hier_types.specs.Lines.{AreLines, zero_line}
+use Rattle.line_codec.specs.Layout.{stored_sizes}
 use Rattle.page_plan.specs.KeptSizes.{kept_size, kept_sizes}
 use Rattle.page_plan.specs.Pages.{page_of}
 use Rattle.page_slots.specs.Puts.{GoesRight, Overflows}
@@ -9,11 +10,16 @@ use Rattle.page_slots.specs.declared.desc.Shape.{Shape}
 use Rattle.page_slots.specs.declared.desc.Shape.TheVariants.{Zero}
 use Rattle.page_slots.specs.declared.putting.PutResult.TheVariants.{Done, Overflow}
 use Rattle.page_store.specs.declared.room.Held.{Held}
-use Rattle.page_store.specs.Lays.{noted}
+use Rattle.page_store.specs.Noted.{noted}
 use Rattle.page_store.specs.Rooms.{IsWithin, bytes_at, bytes_of}
+use Rattle.page_store.specs.Rows.{row_at, row_of_shape}
 use Rattle.page_store.specs.Store.{Store, shape_at, store_in}
+use Rattle.page_store.proofs.LedgerLemmas.{ledger_put, row_is, row_known, totals_few, totals_have}
 use Rattle.page_store.proofs.PagesLemmas as own
 use Rattle.page_store.proofs.StrayLemmas.{strays_put}
+use Rattle.size_ledger.specs.declared.row.SizeRow.{SizeRow}
+use Rattle.size_ledger.specs.Ranges.{AreWithinPages}
+use Rattle.size_ledger.specs.Shares.{AreWithin, share}
 use Rattle.page_store.proofs.pages.Pages.put.Goals as goal
 use Rattle.page_store.proofs.pages.Pages.put.Goals.{After-held-held, After-put}
 
@@ -21,7 +27,7 @@ done≢overflow : Done ≢ Overflow
 done≢overflow e = absurd (search rules)
 
 abbrev seen : After-held-held → Store
-seen c = store_in c.self.inside.codec c.self.inside.memory.items c.self.inside.blocks.descriptors c.self.inside.blocks.used c.self.inside.meta c.self.inside.counts c.self.inside.stops
+seen c = store_in c.self.inside.codec c.self.inside.memory.items c.self.inside.blocks.descriptors c.self.inside.blocks.used c.self.inside.meta c.self.inside.counts c.self.inside.stops c.self.inside.cursor
 
 page_in : (c : After-held-held) → (c.args.line.0 / 64) < length c.self.inside.blocks.descriptors
 page_in c =
@@ -95,6 +101,35 @@ sized : (c' : After-held-held) (before own_sizes : List ℕ) → before ≡ get_
 sized c before own_sizes read is =
     own.sizes_with (seen c) c.self.inside.memory.items c.self.inside.sizes.items c.self.invariant.kept (c.args.line.0 / 64) (c.args.line.0 % 64) c.args.from.now before own_sizes (page_in c) read is
 
+-- what the page took before, by the sizes that were read
+row_before : (c : After-held-held) (read : List ℕ) (row : SizeRow) → read ≡ get_or c.self.inside.sizes.items (c.args.line.0 / 64) read
+    → ((lines : List (List ℕ)) → AreLines lines → kept_sizes c.self.inside.codec lines ≡ read → row ≡ row_of_shape c.held-held.result.shape (stored_sizes c.self.inside.codec lines)) → row ≡ row_at (seen c) (c.args.line.0 / 64)
+row_before c read row at value =
+    row_is (seen c) c.self.inside.memory.items c.self.inside.sizes.items c.self.invariant.kept (c.args.line.0 / 64) c.held-held.result.shape read row (page_in c) (sym (shape_is c)) at value
+
+pub replace_row-requires-clause-within : goal.replace_row-requires-clause-within
+replace_row-requires-clause-within c' =
+    let c = (goal.at.replace_row-requires-clause-within c').After-held-held in
+    let before = row_before c c'.index.result.now c'.row_of_shape-before.result c'.index.ensures c'.row_of_shape-before.ensures in
+    subst (λ (row : SizeRow). AreWithin (share row) c.self.inside.ledger) (sym before)
+    (subst (AreWithin (share (row_at (seen c) (c.args.line.0 / 64)))) (sym c.self.invariant.totals_are) (totals_have (seen c) (c.args.line.0 / 64) (page_in c)))
+
+pub replace_row-requires-clause-most : goal.replace_row-requires-clause-most
+replace_row-requires-clause-most c' =
+    let c = (goal.at.replace_row-requires-clause-most c').After-held-held in
+    subst (AreWithinPages 65536) (sym c.self.invariant.totals_are) (totals_few (seen c) c.self.invariant.kept.sound)
+
+pub replace_row-requires-clause-known : goal.replace_row-requires-clause-known
+replace_row-requires-clause-known c' =
+    let r = (goal.at.replace_row-requires-clause-known c').After-put in
+    let c = (goal.at.replace_row-requires-clause-known c').After-held-held in
+    let done : r.put.result ≡ Done = search rules in
+    let kept = own.kept_put (seen c) c.self.inside.memory.items c.self.inside.sizes.items c.self.invariant.kept (c.args.line.0 / 64) (page_in c) (c.args.line.0 % 64) (omega arith) c.args.from.now
+    c.held-held.result c.held-held.ensures r.deref_mut.result.now r.put.new.memory _ r.deref_mut.ensures.value (back r)
+    r.put.ensures.changes r.put.ensures.sound (r.put.ensures.content done) c'.note.new.meta c'.deref.result.now c'.set.new.self c'.deref.ensures.value c'.note.ensures
+    (sized c c'.index_mut.result.now c'.set.new.self c'.index_mut.ensures.value c'.set.ensures) in
+    row_known _ _ _ kept (c.args.line.0 / 64) c.held-held.result.shape c'.index-2.result.now c'.row_of_shape-after.result (page_in c) (sym (shape_is c)) c'.index-2.ensures c'.row_of_shape-after.ensures
+
 pub invariant_of-self-2 : goal.invariant_of-self-2
 invariant_of-self-2 c' =
     let r = (goal.at.invariant_of-self-2 c').After-put in
@@ -103,13 +138,19 @@ invariant_of-self-2 c' =
     let seen_put = own.seen_put (seen c) c.self.inside.memory.items c.self.inside.sizes.items c.self.invariant.kept (c.args.line.0 / 64) (page_in c) (c.args.line.0 % 64) (omega arith) c.args.from.now
     c.held-held.result c.held-held.ensures r.deref_mut.result.now r.put.new.memory _ r.deref_mut.ensures.value (back r)
     r.put.ensures.changes r.put.ensures.sound (r.put.ensures.content done) c'.note.new.meta c'.deref.result.now c'.deref.ensures.value c'.note.ensures in
+    let kept = own.kept_put (seen c) c.self.inside.memory.items c.self.inside.sizes.items c.self.invariant.kept (c.args.line.0 / 64) (page_in c) (c.args.line.0 % 64) (omega arith) c.args.from.now
+    c.held-held.result c.held-held.ensures r.deref_mut.result.now r.put.new.memory _ r.deref_mut.ensures.value (back r)
+    r.put.ensures.changes r.put.ensures.sound (r.put.ensures.content done) c'.note.new.meta c'.deref.result.now c'.set.new.self c'.deref.ensures.value c'.note.ensures
+    (sized c c'.index_mut.result.now c'.set.new.self c'.index_mut.ensures.value c'.set.ensures) in
+    let before = row_before c c'.index.result.now c'.row_of_shape-before.result c'.index.ensures c'.row_of_shape-before.ensures in
+    let after =
+    row_is _ _ _ kept (c.args.line.0 / 64) c.held-held.result.shape c'.index-2.result.now c'.row_of_shape-after.result (page_in c) (sym (shape_is c)) c'.index-2.ensures c'.row_of_shape-after.ensures in
     record {
-      kept = own.kept_put (seen c) c.self.inside.memory.items c.self.inside.sizes.items c.self.invariant.kept (c.args.line.0 / 64) (page_in c) (c.args.line.0 % 64) (omega arith) c.args.from.now
-          c.held-held.result c.held-held.ensures r.deref_mut.result.now r.put.new.memory _ r.deref_mut.ensures.value (back r)
-          r.put.ensures.changes r.put.ensures.sound (r.put.ensures.content done) c'.note.new.meta c'.deref.result.now c'.set.new.self c'.deref.ensures.value c'.note.ensures
-          (sized c c'.index_mut.result.now c'.set.new.self c'.index_mut.ensures.value c'.set.ensures);
+      kept = kept;
       strays_are = strays_put (seen c) _ c.self.inside.strays c'.put-2.new.self (c.args.line.0 / 64) (c.args.line.0 % 64) c.args.from.now _ _ c.self.invariant.kept.sound (page_in c) (omega arith)
           c.self.invariant.strays_are c'.put-2.ensures seen_put;
+      totals_are = ledger_put (seen c) _ (c.args.line.0 / 64) (c.args.line.0 % 64) c.args.from.now _ _ c'.row_of_shape-before.result c'.row_of_shape-after.result c.self.inside.ledger _ c.self.invariant.kept.sound (page_in c) (omega arith)
+          seen_put before after c.self.invariant.totals_are c'.replace_row.ensures;
     }
 
 pub returns-clause-puts : goal.returns-clause-puts

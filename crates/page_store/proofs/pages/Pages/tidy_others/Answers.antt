@@ -1,4 +1,4 @@
-use Rattle.std.proofs.Common.{◌≡◌, ◌<◌, ℕ, length, subst, arith}
+use Rattle.std.proofs.Common.{◌≡◌, ℕ, length, subst, arith}
 use Rattle.page_store.specs.Lays.{TidiedUpTo}
 use Rattle.page_store.proofs.TidyLemmas.{at_plan_page, keeps_then, same_keeps, tidied_but, tidied_none, tidied_page}
 use Rattle.page_store.proofs.pages.Pages.tidy_others.Goals as goal
@@ -15,16 +15,13 @@ tidy_page-requires c =
 
 pub loop-page-preserved : goal.loop-page-preserved
 loop-page-preserved c =
-    let counted : length c.self.inside.sizes.items ≡ length c.self.inside.blocks.descriptors = c.self.invariant.kept.counted in
-    let pages : length c.loop-page.self.descriptors ≡ length c.self.inside.blocks.descriptors = rw (← c.self.view_is) at c.loop-page.invariant.keeps.pages_stay in
-    let within : c.loop-page.page < length c.loop-page.self.descriptors = omega (arith, counted, pages, c.loop-page-test.true, c.len-page-end.ensures) in
     let s = c.args.self.now in
     let m = c.loop-page.self in
     elim c.if-page-but.branch [
       | then-page-but w ↦ rw w.self-is (record {
         tidied = tidied_page s c.args.but c.loop-page.page m w.tidy_page.new.self (omega (arith, w.if-page-but.true)) c.loop-page.invariant.tidied w.tidy_page.ensures.brings;
         keeps = keeps_then s m w.tidy_page.new.self c.loop-page.invariant.keeps w.tidy_page.ensures.keeps;
-        at_plan = at_plan_page s c.args.but c.loop-page.page m w.tidy_page.new.self within c.loop-page.invariant.keeps c.loop-page.invariant.at_plan w.tidy_page.ensures.brings;
+        at_plan = at_plan_page s c.args.but c.loop-page.page m w.tidy_page.new.self c.loop-page.invariant.keeps c.loop-page.invariant.at_plan w.tidy_page.ensures.brings;
       })
       | else-page-but w ↦ rw w.self-is (record {
         tidied = tidied_but s c.args.but c.loop-page.page m (omega (arith, w.if-page-but.false)) c.loop-page.invariant.tidied;

@@ -1,90 +1,65 @@
-use Rattle.std.proofs.Common.{true≢false, ◌≡◌, ◌<◌, ◌∙◌, List, ℕ, length, sym, ap, subst, inl, inr, refl, arith}
+use Rattle.std.proofs.Common.{rules, ◌≡◌, ◌≢◌, ◌<◌, ◌∙◌, ℕ, suc, ap, sym, subst, refl, arith}
+use Rattle.hier_types.specs.Causes.{raised}
+use Rattle.page_mover.specs.declared.turning.Turn.TheVariants.{Next}
 use Rattle.page_plan.specs.declared.least.PagePlan.{PagePlan}
-use Rattle.page_plan.specs.KeptSizes.{kept_sizes}
-use Rattle.page_plan.specs.PagePlan.{plan_of}
-use Rattle.page_plan.specs.Pages.{page_of, with_page}
-use Rattle.page_store.specs.Lays.{Lays, plan_at}
-use Rattle.page_store.specs.PageBlocks.{IsAtPlan, LacksRoom}
-use Rattle.std.specs.Prelude.{IfErr}
+use Rattle.page_store.specs.PageBlocks.{IsAtPlan}
 use Rattle.page_store.specs.Store.{Store, desc_at, store_in}
-use Rattle.page_store.proofs.PagesLemmas as own
-use Rattle.page_store.proofs.RoomLemmas.{length-page_of}
-use Rattle.page_store.proofs.StoreLemmas.{lines_of_one}
-use Rattle.page_store.proofs.StrayLemmas.{strays_found}
-use Rattle.page_store.proofs.TidyLemmas.{is_ok_of, laid_keeps, never_refused, of_ok, own_page}
+use Rattle.page_store.specs.Turns.{far_at, tidied_more}
+use Rattle.page_store.proofs.TidyLemmas.{counted_keeps, keeps_then, made_of, next_of, plan_kept, same_keeps, stays_of, turns_more, turns_none}
 use Rattle.page_store.proofs.pages.Pages.tidy_page.Goals as goal
-use Rattle.page_store.proofs.pages.Pages.tidy_page.Goals.{After-plan}
+use Rattle.page_store.proofs.pages.Pages.tidy_page.Goals.{After-saturating_add-self-inside}
 
-abbrev seen : After-plan → Store
-seen c = store_in c.self.inside.codec c.self.inside.memory.items c.self.inside.blocks.descriptors c.self.inside.blocks.used c.self.inside.meta c.self.inside.counts c.self.inside.stops
+pub loop-self-init : goal.loop-self-init
+loop-self-init c = record { turns = (0, turns_none c.args.self.now c.args.page); keeps = same_keeps c.args.self.now }
 
-page_in : (c : After-plan) → c.args.page < length c.self.inside.blocks.descriptors
-page_in c = rw (← c.self.view_is) at c.requires
+pub turn-requires : goal.turn-requires
+turn-requires c = omega (arith, c.requires, c.loop-self.invariant.keeps.pages_stay)
 
-sizes_are : (c : After-plan) → c.index.result.now ≡ kept_sizes c.self.inside.codec (page_of (seen c).lines c.args.page)
-sizes_are c = own.sizes_at (seen c) c.self.inside.memory.items c.self.inside.sizes.items c.self.invariant.kept c.args.page c.index.result.now (page_in c) c.index.ensures
+pub loop-self-smaller : goal.loop-self-smaller
+loop-self-smaller c =
+    let off : c.turn.result ≢ Next = search rules in
+    subst (λ (x : Store). far_at x c.args.page < far_at c.loop-self.self c.args.page) (sym c.self.view_is) (c.turn.ensures.falls off)
 
-planned : (c : After-plan) → c.plan.result ≡ plan_at (seen c) c.args.page
-planned c =
-    c.plan.ensures.value c.self.inside.codec (page_of (seen c).lines c.args.page) (lines_of_one (seen c).lines c.args.page c.self.invariant.kept.sound.lines_are) (sym (sizes_are c))
+-- one turn more was counted
+abbrev inside : After-saturating_add-self-inside → Store
+inside c = store_in c.self.inside.codec c.self.inside.memory.items c.self.inside.blocks.descriptors c.self.inside.blocks.used c.self.inside.meta c.self.inside.counts c.self.inside.stops c.self.inside.cursor
 
-at_is : (c : After-plan) → IsAtPlan c.plan.result (desc_at c.self.inside.blocks.descriptors c.args.page) → IsAtPlan (plan_at (seen c) c.args.page) (desc_at (seen c).descriptors c.args.page)
-at_is c at = subst (λ (p : PagePlan). IsAtPlan p (desc_at c.self.inside.blocks.descriptors c.args.page)) (planned c) at
+counted : (c : After-saturating_add-self-inside) → record (inside c) { counts = record c.self.inside.counts { tidy_turns = c.saturating_add-self-inside.result } } ≡ record c.turn.new.self { counts = tidied_more c.turn.new.self.counts }
+counted c =
+    let more : c.saturating_add-self-inside.result ≡ raised c.self.inside.counts.tidy_turns = search rules in
+    ap (λ (n : ℕ). record (inside c) { counts = record c.self.inside.counts { tidy_turns = n } }) more ∙ ap (λ (x : Store). record x { counts = tidied_more x.counts }) c.self.view_is
 
--- the page is off its plan where the test says no
-off_is : (k : After-plan) → (IsAtPlan k.plan.result (desc_at k.self.inside.blocks.descriptors k.args.page) → ⊥)
-    → IsAtPlan (plan_at (seen k) k.args.page) (desc_at (seen k).descriptors k.args.page) → ⊥
-off_is k off at = off (subst (λ (p : PagePlan). IsAtPlan p (desc_at k.self.inside.blocks.descriptors k.args.page)) (sym (planned k)) at)
-
-pub invariant_of-self : goal.invariant_of-self
-invariant_of-self c' =
-    let c = (goal.at.invariant_of-self c').After-plan in
-    record {
-      kept = c.self.invariant.kept;
-      strays_are = strays_found (seen c) c.self.inside.strays c'.put.new.self c.args.page c.self.invariant.kept.sound c.self.invariant.strays_are c'.put.ensures
-          (at_is c (c'.is_at.ensures.0 c'.if-is_at.true));
-    }
-
-pub returns-then-is_at-clause-brings : goal.returns-then-is_at-clause-brings
-returns-then-is_at-clause-brings c' =
-    let c = (goal.at.returns-then-is_at-clause-brings c').After-plan in
-    rw (← c'.self.view_is) (inl (at_is c (c'.is_at.ensures.0 c'.if-is_at.true), refl))
-
-pub lay-requires-clause-lines : goal.lay-requires-clause-lines
-lay-requires-clause-lines c' = rw (← c'.self.view_is) (lines_of_one _ c'.args.page c'.self.invariant.kept.sound.lines_are)
-
-pub lay-requires-clause-whole : goal.lay-requires-clause-whole
-lay-requires-clause-whole c' =
-    let c = (goal.at.lay-requires-clause-whole c').After-plan in
-    rw (← c'.self.view_is) (length-page_of (seen c).lines c.args.page (omega (arith, page_in c, c'.self.invariant.kept.sound.whole)))
-
-pub lay-requires-clause-sized : goal.lay-requires-clause-sized
-lay-requires-clause-sized c' =
-    let c = (goal.at.lay-requires-clause-sized c').After-plan in
-    rw (← c'.self.view_is) (sizes_are c)
-
-pub unwrap-requires : goal.unwrap-requires
-unwrap-requires c' =
-    let c = (goal.at.unwrap-requires c').After-plan in
-    let same : plan_of (seen c).codec (page_of (with_page (seen c).lines c.args.page (page_of (seen c).lines c.args.page)) c.args.page) ≡ plan_at (seen c) c.args.page =
-    ap (λ (ls : List (List ℕ)). plan_of (seen c).codec (page_of ls c.args.page)) (own_page (seen c).lines c.args.page) in
-    let errs : IfErr c'.lay.result (LacksRoom (seen c).descriptors (seen c).used c.args.page (plan_of (seen c).codec (page_of (with_page (seen c).lines c.args.page (page_of (seen c).lines c.args.page)) c.args.page))) =
-    rw (← c'.self.view_is) at c'.lay.ensures.err in
-    is_ok_of c'.lay.result (LacksRoom (seen c).descriptors (seen c).used c.args.page (plan_at (seen c) c.args.page))
-    (subst (λ (p : PagePlan). IfErr c'.lay.result (LacksRoom (seen c).descriptors (seen c).used c.args.page p)) same errs)
-    (λ order lacks. never_refused (seen c) c.self.inside.memory.items c.self.inside.sizes.items c.self.invariant.kept c.args.page (page_in c) order
-    (off_is c (λ at. true≢false (sym (c'.is_at.ensures.1 at) ∙ c'.if-is_at.false))) lacks)
+pub loop-self-preserved : goal.loop-self-preserved
+loop-self-preserved c' =
+    let c = (goal.at.loop-self-preserved c').After-saturating_add-self-inside in
+    let s = c.args.self.now in
+    let m = c.loop-self.self in
+    let after : Store = record c.turn.new.self { counts = tidied_more c.turn.new.self.counts } in
+    let off : c.turn.result ≢ Next = search rules in
+    let count = c.loop-self.invariant.turns.0 in
+    rw (counted c) (record {
+      turns = (
+        suc count,
+        turns_more s c.args.page count m after c.loop-self.invariant.turns.1
+            (record { turn = c.turn.result; off = off; mid = c.turn.new.self; makes = made_of m c.args.page c.turn.result c.turn.new.self off c.turn.ensures.turns; is = refl }),
+      );
+      keeps = keeps_then s c.turn.new.self after (keeps_then s m c.turn.new.self c.loop-self.invariant.keeps c.turn.ensures.keeps) (counted_keeps c.turn.new.self);
+    })
 
 pub returns-clause-brings : goal.returns-clause-brings
-returns-clause-brings c' =
-    let c = (goal.at.returns-clause-brings c').After-plan in
-    let laid = of_ok c'.lay.result _ c'.unwrap.result c'.unwrap.ensures c'.lay.ensures.ok in
-    inr (rw (← c'.self.view_is) (off_is c (λ at. true≢false (sym (c'.is_at.ensures.1 at) ∙ c'.if-is_at.false))), subst (λ (ls : List (List ℕ)). Lays c'.args.self.now c'.args.page ls c'.lay.new.self) (own_page c'.args.self.now.lines c'.args.page) laid)
+returns-clause-brings c =
+    let s = c.args.self.now in
+    let m = c.loop-self.self in
+    let page = c.args.page in
+    let next : c.turn.result ≡ Next = search rules in
+    let stays : c.turn.new.self ≡ m = stays_of m page c.turn.result c.turn.new.self next c.turn.ensures.turns in
+    let at = subst (λ (p : PagePlan). IsAtPlan p (desc_at m.descriptors page)) (plan_kept s m page c.loop-self.invariant.keeps) (c.turn.ensures.at_plan.0 next) in
+    rw stays (record {
+      count = c.loop-self.invariant.turns.0;
+      turns = c.loop-self.invariant.turns.1;
+      settled = next_of m page c.turn.result c.turn.new.self next c.turn.ensures.turns;
+      at_plan = at;
+    })
 
 pub returns-clause-keeps : goal.returns-clause-keeps
-returns-clause-keeps c' =
-    let c = (goal.at.returns-clause-keeps c').After-plan in
-    let laid = of_ok c'.lay.result _ c'.unwrap.result c'.unwrap.ensures c'.lay.ensures.ok in
-    let lays : Lays c'.args.self.now c'.args.page c'.args.self.now.lines c'.lay.new.self = subst (λ (ls : List (List ℕ)). Lays c'.args.self.now c'.args.page ls c'.lay.new.self) (own_page c'.args.self.now.lines c'.args.page) laid in
-    rw (← c'.self.view_is) (laid_keeps (seen c) c.self.inside.memory.items c.self.inside.sizes.items c.self.invariant.kept c.args.page (page_in c) c'.lay.new.self
-    (off_is c (λ at. true≢false (sym (c'.is_at.ensures.1 at) ∙ c'.if-is_at.false))) (rw (← c'.self.view_is) at lays) (rw (← c'.self.view_is) at c'.lay.ensures.frames))
+returns-clause-keeps c = keeps_then c.args.self.now c.loop-self.self c.turn.new.self c.loop-self.invariant.keeps c.turn.ensures.keeps

@@ -12,7 +12,7 @@ returns-clause-did c =
     let like = looked_like s (c.args.line.0 / 64) in
     let at : c.look.new.self ≡ l = c.look.ensures in
     let p = c.self.inside in
-    let inside : Store = store_in p.codec p.memory.items p.blocks.descriptors p.blocks.used p.meta p.counts p.stops in
+    let inside : Store = store_in p.codec p.memory.items p.blocks.descriptors p.blocks.used p.meta p.counts p.stops p.cursor in
     let more : c.saturating_add-self-inside.result ≡ raised p.counts.reads = search rules in
     let counted : record inside { counts = record p.counts { reads = c.saturating_add-self-inside.result } } ≡ record inside { counts = read_more p.counts } =
     ap (λ (n : ℕ). record inside { counts = record p.counts { reads = n } }) more in

@@ -10,7 +10,7 @@ use Rattle.page_store.proofs.pages.PagesLayer.view.Goals as goal
 use Rattle.page_store.proofs.pages.PagesLayer.view.Goals.{After-deref}
 
 abbrev seen : After-deref → Store
-seen c = store_in c.self.inside.codec c.self.inside.memory.items c.self.inside.blocks.descriptors c.self.inside.blocks.used c.self.inside.meta c.self.inside.counts c.self.inside.stops
+seen c = store_in c.self.inside.codec c.self.inside.memory.items c.self.inside.blocks.descriptors c.self.inside.blocks.used c.self.inside.meta c.self.inside.counts c.self.inside.stops c.self.inside.cursor
 
 page_in : (c : After-deref) → c.args.line.0 / 64 < length c.self.inside.blocks.descriptors
 page_in c =
