@@ -1,3 +1,4 @@
+pub mod AlikeLemmas
 pub mod BytesLemmas
 pub mod OneLemmas
 pub mod StepLemmas

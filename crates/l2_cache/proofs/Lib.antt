@@ -1,3 +1,4 @@
+pub mod AlikeLemmas
 pub mod LeaveLemmas
 pub mod OneLemmas
 pub mod PackedLemmas

@@ -1,9 +1,11 @@
 pub mod CleanLemmas
+pub mod DueLemmas
 pub mod EntryLemmas
 pub mod FirstLemmas
 pub mod FlushLemmas
 pub mod LevelLemmas
 pub mod ListLemmas
+pub mod MarkLemmas
 pub mod OneLemmas
 pub mod RingLemmas
 pub mod SlotLemmas
