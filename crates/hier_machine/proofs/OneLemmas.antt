@@ -4,15 +4,16 @@ use Rattle.hier_types.specs.declared.beats.Beat.{Beat}
 use Rattle.hier_types.specs.declared.beats.Beat.TheVariants.{Hart, Mover, Cleaner}
 use Rattle.hier_types.specs.declared.faults.NoSpace.{NoSpace}
 use Rattle.hier_types.specs.Calls.{Answer}
+use Rattle.hier_types.specs.Causes.{raised}
 use Rattle.hier_types.specs.PortCalls.{PortCall, Touch, Poke, PortMade, InOrder, MadeInOrder, poke_calls}
 use Rattle.hier_types.specs.Streams.{Streams}
 use Rattle.beat_runs.proofs.OneRun.{IsDetermined, TellBoth, one_run}
 use Rattle.l1_cache.specs.FirstCalls.{FirstPoke}
 use Rattle.l1_cache.proofs.OneLemmas.{poke_one, touch_one}
 use Rattle.l2_cache.specs.SecondCalls.{SecondRead, SecondWrite}
-use Rattle.l2_cache.proofs.OneLemmas.{second_one}
+use Rattle.l2_cache.proofs.OneLemmas.{cleans_one, second_one}
 use Rattle.page_store.specs.Calls.{StoreRead, StoreWrite}
-use Rattle.page_store.specs.Store.{Sizing, sizing_of}
+use Rattle.page_store.specs.Store.{Sizing, Store, sizing_of}
 use Rattle.page_store.proofs.OneLemmas.{store_read_one, store_write_one}
 use Rattle.recency.proofs.OneLemmas.{IsOne}
 use Rattle.rv_core.specs.Code.{Code}
@@ -22,11 +23,13 @@ use Rattle.rv_guest.specs.Flat.{Flat}
 use Rattle.rv_guest.specs.Lines.{lines_at, pokes_at, stop_of_beat}
 use Rattle.rv_guest.specs.State.{GuestState}
 use Rattle.rv_guest.proofs.OneBeatLemmas.{IsTold, ends_apart, ends_rise, ends_same, steps_same}
-use Rattle.hier_machine.specs.Beats.{HartBeats}
-use Rattle.hier_machine.specs.Memory.{Memory, TouchMemory, store_of}
+use Rattle.hier_machine.specs.Beats.{HartBeats, MovesPages, TurnBeats}
+use Rattle.hier_machine.specs.Levels.{CleanerBelow, MoverBelow}
+use Rattle.hier_machine.specs.Memory.{Below, Memory, TouchMemory, store_of, with_second}
 use Rattle.hier_machine.specs.Runs.{MakesBeat, RunsAreOne, stands_at}
 use Rattle.hier_machine.specs.State.{MachineState, code_of_machine, guest_of_machine}
-use Rattle.hier_machine.proofs.RunLemmas.{cleaner_is, mover_is, stop_is}
+use Rattle.hier_machine.proofs.MoveLemmas.{moves_one}
+use Rattle.hier_machine.proofs.RunLemmas.{stop_is}
 
 -- the store, the second level over it, and a touch of the first have one answer
 store_one : IsOne StoreRead StoreWrite
@@ -92,13 +95,25 @@ hart_one a b c result s t h k guest =
     let memory : c.memory ≡ b.memory = made_one (lines_at code a.guest) (pokes_at code a.guest result b.guest.hart) (stop_of_beat result) a.memory c.memory b.memory made h.made in
     let budget : c.budget ≡ b.budget = k.stays.budget ∙ sym h.stays.budget in
     let beats : c.beats ≡ b.beats = k.stays.beats ∙ sym h.stays.beats in
-    let mover : c.mover_turns ≡ b.mover_turns = k.turns.mover ∙ sym h.turns.mover in
     let cleaner : c.cleaner_turns ≡ b.cleaner_turns = k.turns.cleaner ∙ sym h.turns.cleaner in
     let ended : c.ended ≡ b.ended = k.ended ∙ sym h.ended in
-    let one : MachineState = record { memory = c.memory; guest = c.guest; budget = c.budget; beats = c.beats; mover_turns = c.mover_turns; cleaner_turns = c.cleaner_turns; ended = c.ended } in
-    let other : MachineState = record { memory = b.memory; guest = b.guest; budget = b.budget; beats = b.beats; mover_turns = b.mover_turns; cleaner_turns = b.cleaner_turns; ended = b.ended } in
+    let one : MachineState = record { memory = c.memory; guest = c.guest; budget = c.budget; beats = c.beats; cleaner_turns = c.cleaner_turns; ended = c.ended } in
+    let other : MachineState = record { memory = b.memory; guest = b.guest; budget = b.budget; beats = b.beats; cleaner_turns = b.cleaner_turns; ended = b.ended } in
     let same : one ≡ other = cc in
     same
+
+-- two turns of the mover from one state leave one, and two of the cleaner
+mover_one : (s t u : Below) → MoverBelow MovesPages s t → MoverBelow MovesPages s u → t ≡ u
+mover_one s t u h k = h.rest ∙ ap (λ (p : Store). record s { below = p }) (moves_one s.below t.below u.below h.moves k.moves) ∙ sym k.rest
+
+cleaner_one : (s t u : Below) → CleanerBelow StoreRead StoreWrite s t → CleanerBelow StoreRead StoreWrite s u → t ≡ u
+cleaner_one s t u h k = (cleans_one StoreRead StoreWrite store_one s h.answer k.answer t u h.cleans k.cleans).1
+
+-- so do two beats with such turns
+turn_one : (Turn : Below → Below → Type 0) → ((s t u : Below) → Turn s t → Turn s u → t ≡ u) → (cleaner : ℕ) (a b c : MachineState) (result : Option MachineEnd) (s t : Streams)
+    → TurnBeats Turn cleaner a result b s → TurnBeats Turn cleaner a result c t → c ≡ b
+turn_one Turn one cleaner a b c result s t h k =
+    k.rest ∙ ap (λ (below : Below). record a { memory = with_second a.memory below; cleaner_turns = cleaner }) (one a.memory.below c.memory.below b.memory.below k.turn h.turn) ∙ sym h.rest
 
 module _ (sizing : Sizing) where
   on : (beat : Beat) (a b c : MachineState) (s t : Streams) (bytes : List ℕ) → TellBoth s t bytes → MakesBeat sizing beat a None b s → MakesBeat sizing beat a None c t
@@ -106,8 +121,8 @@ module _ (sizing : Sizing) where
   on Hart a b c s t bytes tell h k =
       let steps = steps_same (guest_of_machine a) (told (code_of_machine a)) a.guest b.guest c.guest s t bytes tell h.machine.does k.machine.does in
       (hart_one a b c None s t h.machine k.machine steps.0, steps.1, steps.2, steps.3)
-  on Mover a b c s t bytes tell h k = (mover_is a c None t k.machine ∙ sym (mover_is a b None s h.machine), bytes, h.machine.quiet.0 ∙ tell.first, k.machine.quiet.0 ∙ tell.second)
-  on Cleaner a b c s t bytes tell h k = (cleaner_is a c None t k.machine ∙ sym (cleaner_is a b None s h.machine), bytes, h.machine.quiet.0 ∙ tell.first, k.machine.quiet.0 ∙ tell.second)
+  on Mover a b c s t bytes tell h k = (turn_one (MoverBelow MovesPages) mover_one a.cleaner_turns a b c None s t h.machine k.machine, bytes, h.machine.quiet.0 ∙ tell.first, k.machine.quiet.0 ∙ tell.second)
+  on Cleaner a b c s t bytes tell h k = (turn_one (CleanerBelow StoreRead StoreWrite) cleaner_one (raised a.cleaner_turns) a b c None s t h.machine k.machine, bytes, h.machine.quiet.0 ∙ tell.first, k.machine.quiet.0 ∙ tell.second)
 
   ends : (beat : Beat) (a b c : MachineState) (end : MachineEnd) (s t : Streams) (bytes : List ℕ) → TellBoth s t bytes → MakesBeat sizing beat a (Some end) b s → MakesBeat sizing beat a (Some end) c t → c ≡ b
   ends Hart a b c end s t bytes tell h k =

@@ -11,6 +11,7 @@ use Rattle.hier_types.proofs.StreamLemmas.{faults_first}
 use Rattle.beat_runs.specs.Points.{Runs, point}
 use Rattle.beat_runs.proofs.PointLemmas.{run_as, run_faults, run_holds, run_turns}
 use Rattle.beat_runs.proofs.StandLemmas.{free_lt, used_le}
+use Rattle.page_store.specs.Calls.{StoreRead, StoreWrite}
 use Rattle.page_store.specs.Store.{Sizing, Store, sizing_of}
 use Rattle.rv_core.specs.Code.{Code}
 use Rattle.rv_guest.specs.declared.ends.MachineEnd.{MachineEnd}
@@ -21,11 +22,13 @@ use Rattle.rv_guest.specs.Steps.{DoesBeat}
 use Rattle.rv_guest.proofs.FollowsLemmas.{Carries, follows}
 use Rattle.run_report.specs.declared.end.End.{End}
 use Rattle.hier_machine.specs.Spaces.{HasNoneIfSpace, IsCrowdedIfSpace, IsEndOf}
-use Rattle.hier_machine.specs.Beats.{Beats, KeepsSettings, TurnsStay}
+use Rattle.hier_machine.specs.Beats.{Beats, KeepsSettings, MovesPages, TurnBeats, TurnsStay}
+use Rattle.hier_machine.specs.Levels.{CleanerBelow, MoverBelow}
 use Rattle.hier_machine.specs.Lists.{ShowsBytes, lists_of}
-use Rattle.hier_machine.specs.Memory.{store_of, with_second}
+use Rattle.hier_machine.specs.Memory.{Below, store_of}
 use Rattle.hier_machine.specs.Runs.{CountsTurns, MakesBeat, RunsBeatByBeat, RunsMachine, stands_at}
-use Rattle.hier_machine.specs.State.{MachineState, code_of_machine}
+use Rattle.hier_machine.specs.State.{MachineState, code_of_machine, mover_turns_of}
+use Rattle.hier_machine.proofs.ListsLemmas.{cleaned_sizing, cleaned_turns, moved_sizing, moved_turns}
 
 -- what stays over two stretches stays over both
 pub settings_join : (a b c : MachineState) → KeepsSettings a b → KeepsSettings b c → KeepsSettings a c
@@ -34,25 +37,22 @@ settings_join a b c h k = record { span = k.span ∙ h.span; code = k.code ∙ h
 pub settings_same : (a : MachineState) → KeepsSettings a a
 settings_same a = record { span = refl; code = refl; sizing = refl; budget = refl; beats = refl }
 
--- a turn of the mover or the cleaner changes nothing but these counts
-abbrev pub turned : MachineState → ℕ → ℕ → MachineState
-turned s mover cleaner = record s { mover_turns = mover; cleaner_turns = cleaner }
-
-turned_is : (old new : MachineState) (mover cleaner : ℕ) → new.memory.below ≡ old.memory.below → new ≡ record old { memory = with_second old.memory new.memory.below; mover_turns = mover; cleaner_turns = cleaner } → new ≡ turned old mover cleaner
-turned_is old new mover cleaner same is = is ∙ ap (λ below. record old { memory = with_second old.memory below; mover_turns = mover; cleaner_turns = cleaner }) same
-
--- the state after a beat of the mover and of the cleaner
-pub mover_is : (old new : MachineState) (result : Option MachineEnd) (streams : Streams) → Beats Mover old result new streams → new ≡ turned old (raised old.mover_turns) old.cleaner_turns
-mover_is old new result streams h = turned_is old new (raised old.mover_turns) old.cleaner_turns h.turn h.rest
-
-pub cleaner_is : (old new : MachineState) (result : Option MachineEnd) (streams : Streams) → Beats Cleaner old result new streams → new ≡ turned old old.mover_turns (raised old.cleaner_turns)
-cleaner_is old new result streams h = turned_is old new old.mover_turns (raised old.cleaner_turns) h.turn h.rest
+-- a turn of the mover or the cleaner that leaves the store's size leaves the settings
+turn_settings : (Turn : Below → Below → Type 0) (cleaner : ℕ) (old new : MachineState) (result : Option MachineEnd) (streams : Streams) → TurnBeats Turn cleaner old result new streams
+    → sizing_of (store_of new.memory) ≡ sizing_of (store_of old.memory) → KeepsSettings old new
+turn_settings Turn cleaner old new result streams h sizing = record {
+  span = ap (λ (t : MachineState). t.memory.span) h.rest;
+  code = ap code_of_machine h.rest;
+  sizing = sizing;
+  budget = ap (λ (t : MachineState). t.budget) h.rest;
+  beats = ap (λ (t : MachineState). t.beats) h.rest;
+}
 
 -- no beat changes the settings
 pub keeps_settings : (beat : Beat) (old new : MachineState) (result : Option MachineEnd) (streams : Streams) → Beats beat old result new streams → KeepsSettings old new
 keeps_settings Hart old new result streams h = h.stays
-keeps_settings Mover old new result streams h = subst (KeepsSettings old) (sym (mover_is old new result streams h)) (record { span = refl; code = refl; sizing = refl; budget = refl; beats = refl })
-keeps_settings Cleaner old new result streams h = subst (KeepsSettings old) (sym (cleaner_is old new result streams h)) (record { span = refl; code = refl; sizing = refl; budget = refl; beats = refl })
+keeps_settings Mover old new result streams h = turn_settings (MoverBelow MovesPages) old.cleaner_turns old new result streams h (moved_sizing old.memory.below new.memory.below h.turn)
+keeps_settings Cleaner old new result streams h = turn_settings (CleanerBelow StoreRead StoreWrite) (raised old.cleaner_turns) old new result streams h (cleaned_sizing old.memory.below new.memory.below h.turn)
 
 -- a run that ends before a beat has used up the budget, and ends the machine
 pub stop_is : (budget : ℕ) (a b : MachineState) (end : MachineEnd) → stands_at budget a ≡ Some (end, b) → (end ≡ Budget) × (b ≡ record a { ended = true }) × (budget ≤ a.guest.retired)
@@ -61,10 +61,10 @@ stop_is budget a b end stop =
     (ap (λ (p : MachineEnd × MachineState). p.0) so.0, ap (λ (p : MachineEnd × MachineState). p.1) so.0, so.1)
 
 -- the turns of a beat
-pub mover_on : (beat : Beat) (a b : MachineState) (s : Streams) → Beats beat a None b s → b.mover_turns ≡ cond (is_mover beat) (raised a.mover_turns) a.mover_turns
+pub mover_on : (beat : Beat) (a b : MachineState) (s : Streams) → Beats beat a None b s → mover_turns_of b ≡ cond (is_mover beat) (raised (mover_turns_of a)) (mover_turns_of a)
 mover_on Hart a b s h = h.turns.mover
-mover_on Mover a b s h = ap (λ (t : MachineState). t.mover_turns) h.rest
-mover_on Cleaner a b s h = ap (λ (t : MachineState). t.mover_turns) h.rest
+mover_on Mover a b s h = moved_turns a.memory.below b.memory.below h.turn
+mover_on Cleaner a b s h = cleaned_turns a.memory.below b.memory.below h.turn
 
 pub cleaner_on : (beat : Beat) (a b : MachineState) (s : Streams) → Beats beat a None b s → b.cleaner_turns ≡ cond (is_cleaner beat) (raised a.cleaner_turns) a.cleaner_turns
 cleaner_on Hart a b s h = h.turns.cleaner
@@ -80,7 +80,7 @@ turns_end Cleaner a b end s h = absurd (let no = h.none in cc)
 turns_stop : (budget : ℕ) (a b : MachineState) (end : MachineEnd) → stands_at budget a ≡ Some (end, b) → TurnsStay a b
 turns_stop budget a b end stop =
     let so = (stop_is budget a b end stop).1 in
-    record { mover = ap (λ (s : MachineState). s.mover_turns) so; cleaner = ap (λ (s : MachineState). s.cleaner_turns) so }
+    record { mover = ap mover_turns_of so; cleaner = ap (λ (s : MachineState). s.cleaner_turns) so }
 
 module _ (sizing : Sizing) where
   -- the machine carries its guest
@@ -104,7 +104,7 @@ module _ (sizing : Sizing) where
   module _ (old : MachineState) (end : MachineEnd) (new : MachineState) (streams : Streams) (r : Runs stands_at (MakesBeat sizing) old.beats old.budget old end new streams) where
     pub run_counts : CountsTurns old.beats old r.count new
     run_counts = record {
-      mover = run_turns stands_at (MakesBeat sizing) old.beats old.budget is_mover (λ (t : MachineState). t.mover_turns) (λ beat a b s h. mover_on beat a b s h.machine) (λ beat a b end' s h. (turns_end beat a b end' s h.machine).mover)
+      mover = run_turns stands_at (MakesBeat sizing) old.beats old.budget is_mover mover_turns_of (λ beat a b s h. mover_on beat a b s h.machine) (λ beat a b end' s h. (turns_end beat a b end' s h.machine).mover)
           (λ a b end' stop. (turns_stop old.budget a b end' stop).mover) (point old (at_first streams)) end (point new streams) r;
       cleaner = run_turns stands_at (MakesBeat sizing) old.beats old.budget is_cleaner (λ (t : MachineState). t.cleaner_turns) (λ beat a b s h. cleaner_on beat a b s h.machine) (λ beat a b end' s h. (turns_end beat a b end' s h.machine).cleaner)
           (λ a b end' stop. (turns_stop old.budget a b end' stop).cleaner) (point old (at_first streams)) end (point new streams) r;

@@ -31,10 +31,10 @@ use Rattle.hier_machine.specs.Beats.{KeepsSettings, TurnsStay}
 use Rattle.hier_machine.specs.Lists.{ShowsBytes, lists_of}
 use Rattle.hier_machine.specs.Memory.{guest_bytes, store_of}
 use Rattle.hier_machine.specs.Start.{StartsEmpty}
-use Rattle.hier_machine.specs.State.{MachineState}
+use Rattle.hier_machine.specs.State.{MachineState, mover_turns_of}
 use Rattle.hier_machine.specs.Traces.{FollowsAccesses, IsCrowdedAtEnd, IsPrintedSoFar, MakesAccess, RunsTrace, TellsAccess, TraceBeats, TraceState, bytes_after, printed_by, trace_end, trace_stands, with_state, zeros}
 use Rattle.hier_machine.proofs.MemoryLemmas.{start_bytes}
-use Rattle.hier_machine.proofs.RunLemmas.{cleaner_is, cleaner_on, keeps_settings, mover_is, mover_on, settings_join, settings_same}
+use Rattle.hier_machine.proofs.RunLemmas.{cleaner_on, keeps_settings, mover_on, settings_join, settings_same}
 
 -- the next access behind so many
 drop_next : (all : List Access) (made : ℕ) (access : Access) (rest : List Access) → drop made all ≡ access ∷ rest → drop (suc made) all ≡ rest
@@ -122,7 +122,7 @@ trace_keeps printed sizing Hart a b result s h = h.tries.machine.stays
 trace_keeps printed sizing Mover a b result s h = keeps_settings Mover a.machine b.machine None s h.machine
 trace_keeps printed sizing Cleaner a b result s h = keeps_settings Cleaner a.machine b.machine None s h.machine
 
-mover_turns_on : (printed : Access → ℕ → List ℕ) (sizing : Sizing) (beat : Beat) (a b : TraceState) (s : Streams) → TraceBeats printed sizing beat a None b s → b.machine.mover_turns ≡ cond (is_mover beat) (raised a.machine.mover_turns) a.machine.mover_turns
+mover_turns_on : (printed : Access → ℕ → List ℕ) (sizing : Sizing) (beat : Beat) (a b : TraceState) (s : Streams) → TraceBeats printed sizing beat a None b s → mover_turns_of b.machine ≡ cond (is_mover beat) (raised (mover_turns_of a.machine)) (mover_turns_of a.machine)
 mover_turns_on printed sizing Hart a b s h = h.tries.machine.turns.mover
 mover_turns_on printed sizing Mover a b s h = mover_on Mover a.machine b.machine s h.machine
 mover_turns_on printed sizing Cleaner a b s h = mover_on Cleaner a.machine b.machine s h.machine
@@ -141,7 +141,7 @@ turns_end printed sizing Cleaner a b end s h = absurd (let no = h.none in cc)
 turns_stop : (budget : ℕ) (a b : TraceState) (end : TraceEnd) → trace_stands budget a ≡ Some (end, b) → TurnsStay a.machine b.machine
 turns_stop budget a b end stop =
     let same = (trace_stop budget a b end stop).0 in
-    record { mover = ap (λ (s : TraceState). s.machine.mover_turns) same; cleaner = ap (λ (s : TraceState). s.machine.cleaner_turns) same }
+    record { mover = ap (λ (s : TraceState). mover_turns_of s.machine) same; cleaner = ap (λ (s : TraceState). s.machine.cleaner_turns) same }
 
 -- a beat of another leaves the machine running, and one of the hart's that ends nothing is counted
 pub trace_goes_on : (printed : Access → ℕ → List ℕ) (sizing : Sizing) (beat : Beat) (a b : TraceState) (s : Streams) → TraceBeats printed sizing beat a None b s → b.machine.guest.retired ≡ retired_by beat a.machine.guest.retired
@@ -150,8 +150,8 @@ trace_goes_on printed sizing Hart a b s h = counted h.answer h.tries.machine.doe
     counted : (answer : Result ℕ NoSpace) → DoesAccess a.machine.memory.span h.access a.machine.guest answer b.machine.guest → TellsAccess printed h.access h.rest answer None b.left s.output → b.machine.guest.retired ≡ a.machine.guest.retired + 1
     counted (Ok value) does tells = ap (λ (g : GuestState). g.retired) does.1
     counted (Err refusal) does tells = absurd tells
-trace_goes_on printed sizing Mover a b s h = ap (λ (t : MachineState). t.guest.retired) (mover_is a.machine b.machine None s h.machine)
-trace_goes_on printed sizing Cleaner a b s h = ap (λ (t : MachineState). t.guest.retired) (cleaner_is a.machine b.machine None s h.machine)
+trace_goes_on printed sizing Mover a b s h = ap (λ (t : MachineState). t.guest.retired) h.machine.rest
+trace_goes_on printed sizing Cleaner a b s h = ap (λ (t : MachineState). t.guest.retired) h.machine.rest
 
 -- a machine of zeros shows its bytes
 pub empty_shows : (settings : Settings) (s : MachineState) → StartsEmpty settings s → ShowsBytes (lists_of s)
@@ -173,7 +173,7 @@ module _ (printed : Access → ℕ → List ℕ) (budget : ℕ) (word : List Bea
         shows = shows;
         run = r;
         turns = record {
-          mover = run_turns trace_stands (TraceBeats printed sizing) word budget is_mover (λ (t : TraceState). t.machine.mover_turns) (mover_turns_on printed sizing) (λ beat a b e s h. (turns_end printed sizing beat a b e s h).mover)
+          mover = run_turns trace_stands (TraceBeats printed sizing) word budget is_mover (λ (t : TraceState). mover_turns_of t.machine) (mover_turns_on printed sizing) (λ beat a b e s h. (turns_end printed sizing beat a b e s h).mover)
               (λ a b e stop. (turns_stop budget a b e stop).mover) first end last r;
           cleaner = run_turns trace_stands (TraceBeats printed sizing) word budget is_cleaner (λ (t : TraceState). t.machine.cleaner_turns) (cleaner_turns_on printed sizing) (λ beat a b e s h. (turns_end printed sizing beat a b e s h).cleaner)
               (λ a b e stop. (turns_stop budget a b e stop).cleaner) first end last r;
@@ -263,9 +263,9 @@ module _ (printed : Access → ℕ → List ℕ) (budget : ℕ) (word : List Bea
       where
         by_beat : (beat : Beat) → TraceBeats printed sizing beat a.state None b.state by.streams → ComesTo (point b.state (over a.streams by.streams))
         by_beat Hart h = accessed_on a b.state by.streams h so (trace_free budget a.state by.allowed) by.meets.output by.meets.input by.meets.out_faults by.faults.output
-        by_beat Mover h = idles a b.state by.streams so (keeps_settings Mover a.state.machine b.state.machine None by.streams h.machine).span (ap (λ (t : MachineState). t.guest) (mover_is a.state.machine b.state.machine None by.streams h.machine)) h.left
+        by_beat Mover h = idles a b.state by.streams so (keeps_settings Mover a.state.machine b.state.machine None by.streams h.machine).span (ap (λ (t : MachineState). t.guest) h.machine.rest) h.left
             by.meets.output by.meets.input by.meets.out_faults h.machine.quiet.1 h.machine.quiet.0 by.faults.output
-        by_beat Cleaner h = idles a b.state by.streams so (keeps_settings Cleaner a.state.machine b.state.machine None by.streams h.machine).span (ap (λ (t : MachineState). t.guest) (cleaner_is a.state.machine b.state.machine None by.streams h.machine)) h.left
+        by_beat Cleaner h = idles a b.state by.streams so (keeps_settings Cleaner a.state.machine b.state.machine None by.streams h.machine).span (ap (λ (t : MachineState). t.guest) h.machine.rest) h.left
             by.meets.output by.meets.input by.meets.out_faults h.machine.quiet.1 h.machine.quiet.0 by.faults.output
 
     -- a point at which all was printed

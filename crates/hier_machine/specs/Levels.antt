@@ -4,7 +4,8 @@ use Rattle.hier_types.specs.declared.faults.NoSpace.{NoSpace}
 use Rattle.hier_types.specs.Calls.{Answer}
 use Rattle.l1_cache.specs.FirstCalls.{FirstTouch}
 use Rattle.l1_cache.specs.FirstLevel.{FirstLevel, lines_of_first}
-use Rattle.l2_cache.specs.SecondCalls.{SecondRead, SecondWrite}
+use Rattle.l2_cache.specs.declared.clean.Clean.{Clean}
+use Rattle.l2_cache.specs.SecondCalls.{SecondCleans, SecondRead, SecondWrite}
 use Rattle.l2_cache.specs.SecondLevel.{SecondLevel, lines_of_second}
 
 -- both levels over a store
@@ -26,10 +27,12 @@ levels_above f m = record { below = second_above f m.below; sets = m.sets; held 
 abbrev pub TouchLevels : {S : Type 0} → (S → ℕ → Result (List ℕ) NoSpace → S → Type 0) → (S → ℕ → List ℕ → Answer → S → Type 0) → Levels S → ℕ → Answer → Levels S → Type 0
 TouchLevels did_read did_write s line answer t = FirstTouch (SecondRead did_read did_write) (SecondWrite did_read did_write) s line answer t
 
--- a turn of the mover: every page is at its plan already, so nothing moves
-abbrev pub MoverBelow : {S : Type 0} → SecondLevel S → SecondLevel S → Type 0
-MoverBelow old new = new ≡ old
+-- A turn of the mover, by what one does to the store: the lists of the second level stay.
+pub record MoverBelow {S : Type 0} (Moves : S → S → Type 0) (old new : SecondLevel S) : Type 0 where
+  pub moves : Moves old.below new.below
+  pub rest : new ≡ record old { below = new.below }
 
--- a turn of the cleaner, which cleans nothing yet
-abbrev pub CleanerBelow : {S : Type 0} → SecondLevel S → SecondLevel S → Type 0
-CleanerBelow old new = new ≡ old
+-- A turn of the cleaner: the second level writes one line down to the store, or has none to write.
+pub record CleanerBelow {S : Type 0} (did_read : S → ℕ → Result (List ℕ) NoSpace → S → Type 0) (did_write : S → ℕ → List ℕ → Answer → S → Type 0) (old new : SecondLevel S) : Type 0 where
+  pub answer : Clean
+  pub cleans : SecondCleans did_read did_write old answer new

@@ -14,3 +14,4 @@ pub mod Spaces
 pub mod Start
 pub mod State
 pub mod Traces
+pub mod Words

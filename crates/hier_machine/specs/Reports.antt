@@ -16,17 +16,17 @@ use Rattle.hier_machine.specs.Memory.{guest_lines, store_of}
 use Rattle.hier_machine.specs.Settles.{ListsSettle, SettlesMachine}
 use Rattle.hier_machine.specs.State.{MachineState}
 
--- what the levels, the store and the turns of the mover and the cleaner have counted
-abbrev pub counts_by : L1Counts → SecondLevel Store → ℕ → ℕ → Counts
-counts_by first second mover cleaner = record {
+-- what the levels, the store and the turns of the cleaner have counted
+abbrev pub counts_by : L1Counts → SecondLevel Store → ℕ → Counts
+counts_by first second cleaner = record {
   l1 = first;
   l2 = second.counts;
-  pages = record second.below.counts { mover_turns = mover };
+  pages = second.below.counts;
   cleaner_turns = cleaner;
 }
 
 abbrev pub counts_of : MachineState → Counts
-counts_of s = counts_by s.memory.counts s.memory.below s.mover_turns s.cleaner_turns
+counts_of s = counts_by s.memory.counts s.memory.below s.cleaner_turns
 
 -- the totals of these lines at their plans, or the refusal
 abbrev pub SettledAs : Codec → List (List ℕ) → Answer → Settled → Type 0

@@ -11,7 +11,7 @@ use Rattle.rv_guest.specs.declared.ends.MachineEnd.TheVariants.{Budget}
 use Rattle.hier_machine.specs.Beats.{Beats, KeepsSettings}
 use Rattle.hier_machine.specs.Lists.{ListsBeats, ShowsBytes, lists_of}
 use Rattle.hier_machine.specs.Memory.{store_of}
-use Rattle.hier_machine.specs.State.{MachineState}
+use Rattle.hier_machine.specs.State.{MachineState, mover_turns_of}
 
 -- where a run with this budget ends before a beat: where the budget is used up, which ends the machine
 abbrev pub stands_at : ℕ → MachineState → Option (MachineEnd × MachineState)
@@ -28,7 +28,7 @@ RunsBeatByBeat old end new streams = Runs stands_at (MakesBeat (sizing_of (store
 
 -- Each turn of the mover and of the cleaner among so many passed beats was counted, and nothing else.
 pub record CountsTurns (beats : List Beat) (old : MachineState) (count : ℕ) (new : MachineState) : Type 0 where
-  pub mover : new.mover_turns ≡ raised_by old.mover_turns (turns_among is_mover beats count)
+  pub mover : mover_turns_of new ≡ raised_by (mover_turns_of old) (turns_among is_mover beats count)
   pub cleaner : new.cleaner_turns ≡ raised_by old.cleaner_turns (turns_among is_cleaner beats count)
 
 -- A run of the machine from one state to its end. Its turns are those of the beats that it passed; where an instruction

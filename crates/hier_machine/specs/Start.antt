@@ -35,7 +35,6 @@ start_memory settings store = record {
 pub record IsNew (settings : Settings) (s : MachineState) : Type 0 where
   pub budget : s.budget ≡ settings.budget
   pub beats : s.beats ≡ settings.beats
-  pub mover : s.mover_turns ≡ 0
   pub cleaner : s.cleaner_turns ≡ 0
   pub running : s.ended ≡ false
 

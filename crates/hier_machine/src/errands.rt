@@ -115,3 +115,39 @@ impl Errand<Pages> for Tidying {
         below.tidy();
     }
 }
+
+/// Makes one turn of the cleaner of the second level.
+#[derive(Drop)]
+pub struct CleaningTurn;
+
+impl Errand<L2<Pages>> for CleaningTurn {
+    ghost use Rattle.std.specs.Prelude.{◌≡◌};
+    ghost use Rattle.page_store.specs.Calls.{StoreRead, StoreWrite};
+    ghost use Rattle.hier_machine.specs.Levels.{CleanerBelow};
+    ghost use Rattle.hier_machine.specs.Memory.{lines_below};
+
+    ghost may_go = { λ _ _. Unit {0} };
+
+    ghost did_go = { λ _ before _ after. CleanerBelow StoreRead StoreWrite before after × (lines_below after ≡ lines_below before) };
+
+    fn go(&mut self, below: &mut L2<Pages>) {
+        let _ = below.clean_turn();
+    }
+}
+
+/// Makes one turn of the mover of the pages.
+#[derive(Drop)]
+pub struct MovingTurn;
+
+impl Errand<Pages> for MovingTurn {
+    ghost use Rattle.std.specs.Prelude.{◌≡◌};
+    ghost use Rattle.hier_machine.specs.Beats.{MovesPages};
+
+    ghost may_go = { λ _ _. Unit {0} };
+
+    ghost did_go = { λ _ before _ after. MovesPages before after × (after.lines ≡ before.lines) };
+
+    fn go(&mut self, below: &mut Pages) {
+        let _ = below.mover_turn();
+    }
+}

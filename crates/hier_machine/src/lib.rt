@@ -16,5 +16,5 @@ mod tests;
 pub use ends::{NotOpened, OpenFault, TraceEnd, end_of};
 pub use errands::{FlushSecond, Placing, Through};
 pub use file_runs::open_file;
-pub use machine::{Machine, runs_are_one};
+pub use machine::{Machine, counts_are_alike, runs_are_one};
 pub use rv_guest::MachineEnd;

@@ -1,7 +1,8 @@
 // The guest over its memory, beat by beat.
-ghost use Rattle.std.specs.Prelude.{◌≡◌, ◌*◌, ◌-◌, ◌^◌, ◌<◌, ◌≤◌, false, IfErr, IfOk, OnOk, length, take, drop};
+ghost use Rattle.std.specs.Prelude.{◌≡◌, ◌*◌, ◌-◌, ◌^◌, ◌<◌, ◌≤◌, false, None, IfErr, IfOk, OnOk, length, take, drop};
 ghost use Rattle.hier_types.specs.Settings.{AreWithinRules};
-ghost use Rattle.hier_types.specs.Streams.{FaultsStay, went};
+ghost use Rattle.hier_types.specs.Streams.{AreUntouched, FaultsStay, Streams, went};
+ghost use Rattle.hier_types.specs.declared.beats.Beat.TheVariants.{Mover, Cleaner};
 ghost use Rattle.hier_types.specs.declared.faults.NoSpace.{NoSpace as Refusal};
 ghost use Rattle.page_store.specs.Crowds.{Crowded};
 ghost use Rattle.page_store.specs.Store.{AreAtPlan, IsSound, sizing_of};
@@ -20,16 +21,16 @@ ghost use Rattle.hier_machine.specs.Settles.{ListsSettle, SettlesMachine};
 ghost use Rattle.hier_machine.specs.Spaces.{AreFreeCounts, AreNoneFrom, IsEndOf, IsSpaceEnd};
 ghost use Rattle.hier_machine.specs.Start.{Starts, StartsEmpty, asked_sizing, start_memory};
 ghost use Rattle.hier_machine.specs.State.{guest_of_machine};
+ghost use Rattle.hier_machine.specs.Words.{CountsAreAlike};
 ghost use Rattle.run_report.specs.ReportLines.{HasBlocksIfDone};
 
 use crate::ends::{OpenFault, end_of};
-use crate::errands::{FlushSecond, Through, Tidying, place_under};
+use crate::errands::{CleaningTurn, FlushSecond, MovingTurn, Through, Tidying, place_under};
 use crate::page_view::view_page;
 use beat_runs::{Runner, run};
 use elf_image::Image;
 use hier_types::{
-    Access, Beat, BeatWord, Layer, NoMemory, NoSpace, PageCounts, PageNo, Port, Settings, Sink,
-    Source,
+    Access, Beat, BeatWord, Layer, NoMemory, NoSpace, PageNo, Port, Settings, Sink, Source,
 };
 use l1_cache::L1;
 use l2_cache::L2;
@@ -47,7 +48,6 @@ pub struct Machine {
     guest: Guest,
     budget: u64,
     beats: BeatWord,
-    mover_turns: u64,
     cleaner_turns: u64,
     ended: bool,
 }
@@ -64,7 +64,6 @@ impl Model for Machine {
       guest = state_of m.guest (guest_bytes m.memory);
       budget = m.budget;
       beats = m.beats;
-      mover_turns = m.mover_turns;
       cleaner_turns = m.cleaner_turns;
       ended = m.ended;
     } };
@@ -122,7 +121,6 @@ impl Machine {
             guest: Guest::start(entry, end, &settings.geometry),
             budget: settings.budget,
             beats,
-            mover_turns: 0,
             cleaner_turns: 0,
             ended: false,
         })
@@ -151,7 +149,7 @@ impl Machine {
         self.memory.below().below()
     }
 
-    /// What both levels, the memory of pages and the turns of the mover and the cleaner have counted.
+    /// What both levels, the memory of pages and the turns of the cleaner have counted.
     pub fn counts(&self) -> Counts
         ensures counts { result ≡ counts_of self.now }
         ensures sound { IsSound (store_of self.now.memory) }
@@ -159,10 +157,7 @@ impl Machine {
         Counts {
             l1: self.memory.counts(),
             l2: self.memory.below().counts(),
-            pages: PageCounts {
-                mover_turns: self.mover_turns,
-                ..self.pages().counts()
-            },
+            pages: self.pages().counts(),
             cleaner_turns: self.cleaner_turns,
         }
     }
@@ -192,8 +187,9 @@ impl Machine {
         view_page(&self.memory, page, into);
     }
 
-    /// One beat. The hart makes one instruction. A turn of the mover or of the cleaner is counted: every page is at its
-    /// least layout already, and nothing is cleaned yet. A beat that answers an end ends the machine.
+    /// One beat. The hart makes one instruction. The mover makes one turn of repacking, on the page where it stands. The
+    /// cleaner writes one changed line of the second level down to the pages; where that is refused, the line stays
+    /// changed, and the run goes on. A beat that answers an end ends the machine.
     pub fn beat<I: Source, O: Sink>(
         &mut self,
         beat: Beat,
@@ -314,6 +310,23 @@ impl Machine {
         self.ended = end.is_some();
         end
     }
+
+    /// One turn of the mover.
+    fn move_beat(&mut self)
+        ensures beats { (streams : Streams) → AreUntouched streams → Beats Mover self.old None self.new streams }
+        ensures lists { (streams : Streams) → AreUntouched streams → ListsBeats (sizing_of (store_of self.old.memory)) Mover (lists_of self.old) None (lists_of self.new) streams }
+    {
+        self.memory.below_do(&mut Through { errand: MovingTurn });
+    }
+
+    /// One turn of the cleaner, which is counted.
+    fn clean_beat(&mut self)
+        ensures beats { (streams : Streams) → AreUntouched streams → Beats Cleaner self.old None self.new streams }
+        ensures lists { (streams : Streams) → AreUntouched streams → ListsBeats (sizing_of (store_of self.old.memory)) Cleaner (lists_of self.old) None (lists_of self.new) streams }
+    {
+        self.memory.below_do(&mut CleaningTurn);
+        self.cleaner_turns = self.cleaner_turns.saturating_add(1);
+    }
 }
 
 impl Runner for Machine {
@@ -349,11 +362,11 @@ impl Runner for Machine {
         match beat {
             Beat::Hart => self.hart_beat(input, out),
             Beat::Mover => {
-                self.mover_turns = self.mover_turns.saturating_add(1);
+                self.move_beat();
                 None
             }
             Beat::Cleaner => {
-                self.cleaner_turns = self.cleaner_turns.saturating_add(1);
+                self.clean_beat();
                 None
             }
         }
@@ -394,4 +407,11 @@ fn free_counts(store: &Pages) -> [u32; 4]
 /// with all its counts.
 pub fn runs_are_one()
     ensures { RunsAreOne }
+{}
+
+/// Two runs from one state under different words of beats, over the same told input, that end alike with as many
+/// instructions retired, and not for want of room, have the same counts of both levels, and the same lists but for the
+/// dirty marks of the second level.
+pub fn counts_are_alike()
+    ensures { CountsAreAlike }
 {}

@@ -2,7 +2,6 @@ use Rattle.std.proofs.Common.{◌+◌, ◌∙◌, Ok, Err, refl, ap}
 use Rattle.std.proofs.lemmas.Result.{err_from_is_err_and}
 use Rattle.rv_guest.specs.State.{code_at, state_of}
 use Rattle.rv_guest.proofs.CodeLemmas.{code_stays}
-use Rattle.hier_machine.specs.Beats.{TurnsStay}
 use Rattle.hier_machine.specs.contracts.machine.Machine.{the_view}
 use Rattle.hier_machine.proofs.ListsLemmas.{accesses, lists_access}
 use Rattle.hier_machine.proofs.machine.Machine.beat_access.Goals as goal
@@ -15,9 +14,8 @@ returns-in_err-value-clause-beats c =
     let new = the_view (record c.self.inside { memory = c.access.new.port }) in
     let h = c.in_err-value.ensures in
     let code = ap (λ span. code_at span new.guest) h.span ∙ code_stays old.memory.span old.guest new.guest.hart new.guest.retired in
-    let turns : TurnsStay old new = record { mover = refl; cleaner = refl } in
     let p = err_from_is_err_and c.from_residual.result c.from_residual.ensures.1 in
-    rw (p.1, p.2, ← c.self.view_is) (accesses old new c.args.asked.now (Err refusal) (ap (λ bytes. state_of guest bytes) h.err) h.made h.cause h.span code refl refl turns refl)
+    rw (p.1, p.2, ← c.self.view_is) (accesses old new c.args.asked.now (Err refusal) (ap (λ bytes. state_of guest bytes) h.err) h.made h.cause h.span code refl refl refl refl)
 
 pub returns-in_err-value-clause-lists : goal.returns-in_err-value-clause-lists
 returns-in_err-value-clause-lists c =
@@ -35,8 +33,7 @@ returns-clause-beats c =
     let new = the_view (record c.self.inside { memory = c.access.new.port; guest = guest }) in
     let h = c.in_ok-value.ensures in
     let code = ap (λ span. code_at span new.guest) h.span ∙ code_stays old.memory.span old.guest new.guest.hart new.guest.retired in
-    let turns : TurnsStay old new = record { mover = refl; cleaner = refl } in
-    rw (← c.self.view_is) (accesses old new c.args.asked.now (Ok c.in_ok-value.value) (h.ok, ap (λ bytes. state_of guest bytes) h.bytes) h.made h.cause h.span code refl refl turns refl)
+    rw (← c.self.view_is) (accesses old new c.args.asked.now (Ok c.in_ok-value.value) (h.ok, ap (λ bytes. state_of guest bytes) h.bytes) h.made h.cause h.span code refl refl refl refl)
 
 pub returns-clause-lists : goal.returns-clause-lists
 returns-clause-lists c =

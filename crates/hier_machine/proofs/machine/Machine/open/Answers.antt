@@ -45,7 +45,6 @@ returns-clause-ok c =
       new = record {
         budget = ap (λ (s : MachineState). s.budget) c.machine.view_is ∙ empty.new.budget;
         beats = ap (λ (s : MachineState). s.beats) c.machine.view_is ∙ empty.new.beats;
-        mover = ap (λ (s : MachineState). s.mover_turns) c.machine.view_is ∙ empty.new.mover;
         cleaner = ap (λ (s : MachineState). s.cleaner_turns) c.machine.view_is ∙ empty.new.cleaner;
         running = ap (λ (s : MachineState). s.ended) c.machine.view_is ∙ empty.new.running;
       };

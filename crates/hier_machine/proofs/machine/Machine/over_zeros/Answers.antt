@@ -15,7 +15,7 @@ returns-clause-empty c =
       memory = made;
       bytes = ap guest_bytes made ∙ start_bytes settings;
       retired = ap (λ (s : GuestState). s.retired) (c.start.ensures []);
-      new = record { budget = refl; beats = c.in_ok-beats.ensures.cases; mover = refl; cleaner = refl; running = refl };
+      new = record { budget = refl; beats = c.in_ok-beats.ensures.cases; cleaner = refl; running = refl };
     }
 
 pub returns-clause-guest : goal.returns-clause-guest

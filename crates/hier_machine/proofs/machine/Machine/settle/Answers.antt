@@ -39,7 +39,6 @@ settles c =
       guest = state_of in_self.guest (flatten l);
       budget = in_self.budget;
       beats = in_self.beats;
-      mover_turns = in_self.mover_turns;
       cleaner_turns = in_self.cleaner_turns;
       ended = in_self.ended;
     } in
