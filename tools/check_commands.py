@@ -18,7 +18,7 @@ PROGRAM = "crates/hier_cli/out/hier_cli"
 PAGES = ["README.md", "docs/GUIDE.md", "docs/LAYOUT.md"]
 BEGINS = ("./hiersim ", "tools/", "echo ", ".ci/", "bench/")
 # Not run: what stands for a file of the reader's, files that a reader makes, scripts by their names, and what takes long.
-LEFT_OUT = re.compile(r"\bFILE\b|seven\.txt|^tools/\S+$|^\.ci/|^bench/")
+LEFT_OUT = re.compile(r"\bFILE\b|seven\.txt|plot_beats|^tools/\S+$|^\.ci/|^bench/")
 # What a command prints that could not be run: words that the program refuses, a script that fails.
 REFUSED = ("end usage", "Traceback")
 SECONDS = 60

@@ -29,7 +29,7 @@ if ! command -v riscv64-unknown-elf-gcc >/dev/null && ! { command -v clang && co
     echo "no compiler for RISC-V is installed: nothing was built"
     exit 0
 fi
-for program in copy words list matrix text noise; do
+for program in copy words list matrix text noise phases; do
     elf=$folder/../$program.elf
     compile "$folder/$program.c" "$elf"
     echo "built examples/$program.elf"
